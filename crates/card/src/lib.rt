@@ -1,4 +1,6 @@
 // Cards of 512-byte blocks, by what they hold.
+#![tactic(auto)]
+
 ghost use Rattle.std.specs.Prelude.{◌≡◌, ℕ, Bool, List, length};
 ghost use Rattle.card.specs.Cards.{Read, Shaped, Written};
 

@@ -6,7 +6,6 @@ use Rattle.std.proofs.lemmas.List.{get_or-drop, length-drop}
 use Rattle.std.proofs.lemmas.Bool.{cases_lt}
 use Rattle.card.specs.declared.fault.CardFault.{CardFault}
 use Rattle.card_copy.specs.declared.copy.CopyFault.{CopyFault}
-use Rattle.card_copy.specs.declared.copy.CopyFault.TheVariants.{Read, Write}
 use Rattle.card.specs.Faults.{checked}
 use Rattle.card_copy.specs.Copies.{in_turn, copy_checked, BlockCopied, Copied}
 use Rattle.card.proofs.Checks.{granted}

@@ -1,5 +1,5 @@
 -- A card of zeros, all worn: what its checks answer.
-use Rattle.std.proofs.Common.{◌≡◌, ℕ, Bool, true, false, cond, eqb, leb, List, length, is_ok, Ok, Err, Result, refl, ap}
+use Rattle.std.proofs.Common.{◌≡◌, ℕ, Bool, true, false, cond, eqb, leb, length, is_ok, Err, refl}
 use Rattle.std.proofs.lemmas.List.{length-replicate}
 use Rattle.card.specs.declared.fault.CardFault.{CardFault}
 use Rattle.card.specs.declared.fault.CardFault.TheVariants.{OutOfRange, WrongLength, Worn}

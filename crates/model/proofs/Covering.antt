@@ -2,7 +2,7 @@
 use Rattle.std.proofs.Common.{◌≡◌, ℕ, zero, suc, ◌+◌, ◌-◌, ◌<◌, ◌≤◌, max, Bool, true, false, cond, not, eqb, ltb, leb, List, [], ◌∷◌, length, count_by, sym, refl, ap, ◌∙◌, ⊎_elim, arith}
 use Rattle.std.proofs.lemmas.List.Sums.{sum_by-cons}
 use Rattle.std.proofs.lemmas.Bool.{ltb-true, ltb-false, leb-false, eqb-false, eq-eqb, ne_eqb, cond_both, cases_eq, cases_lt}
-use Rattle.model.specs.Space.{Blocks, times, Run, run_before, runs_from, runs, total, most, longest, others, lowest_fit, split_up_to, split}
+use Rattle.model.specs.Space.{Blocks, times, Run, run_before, runs_from, runs, total, most, longest, others, lowest_fit, split_up_to}
 use Rattle.model.specs.Ownership.{one_if}
 use Rattle.model.specs.Pieces.{preceded, pieces}
 use Rattle.model.proofs.Basics.{one_if_le}

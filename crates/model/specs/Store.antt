@@ -1,5 +1,5 @@
 -- The store as its rules see it: 64 lists of places and a set of free blocks.
-use Rattle.std.specs.Prelude.{ℕ, ◌+◌, ◌-◌, ◌||◌, List, [], length, set, replicate, sum_by, nat_lt, slice_index_or, slice_set}
+use Rattle.std.specs.Prelude.{ℕ, ◌+◌, ◌-◌, ◌||◌, List, [], length, replicate, sum_by, nat_lt, slice_index_or, slice_set}
 use Rattle.calls.specs.declared.kind.Kind.TheVariants.{Written}
 use Rattle.model.specs.Places.{Place, hole, held, range, inserted, collapsed, punched, reserved}
 use Rattle.model.specs.Extents.{extents, cut}

@@ -1,18 +1,16 @@
 -- A call on one of two cards is that call on the pair.
-use Rattle.std.proofs.Common.{◌≡◌, ℕ, ◌+◌, ◌-◌, ◌<◌, ◌≤◌, min, Bool, false, cond, List, [], ◌++◌, length, get_or, take, drop, set, is_ok, Ok, Err, Result, sym, refl, ap, ◌∙◌, subst, arith}
+use Rattle.std.proofs.Common.{◌≡◌, ℕ, ◌+◌, ◌-◌, ◌<◌, ◌≤◌, min, Bool, false, cond, List, [], ◌++◌, length, get_or, take, drop, set, is_ok, Err, Result, sym, refl, ap, ◌∙◌, subst, arith}
 use lib.Seq.{take-set-lt}
 use Rattle.std.proofs.lemmas.List.{set-append_left, set-append_right, drop-set-lt}
-use Rattle.std.proofs.lemmas.Bool.{lt-ltb, le-ltb, le-leb}
+use Rattle.std.proofs.lemmas.Bool.{lt-ltb, le-ltb}
 use Rattle.std.proofs.lemmas.Bool.Decides.{nat_tests}
 use Rattle.card.specs.declared.fault.CardFault.{CardFault}
-use Rattle.card.specs.declared.fault.CardFault.TheVariants.{OutOfRange, WrongLength, Worn}
+use Rattle.card.specs.declared.fault.CardFault.TheVariants.{OutOfRange}
 use Rattle.card.specs.Cards.{Read, Written}
-use Rattle.card.specs.Faults.{checked}
 use Rattle.card.proofs.Checks.{checked_inside, checked_past}
 use Rattle.card.proofs.Writes.{under_cond, written_keeps, written_count}
 use Rattle.pair_card.specs.Pairs.{both_blocks, both_worn, hidden_blocks, place_of}
 use Rattle.pair_card.specs.Paired.{length_both, both_left, both_right}
-use Rattle.pair_card.specs.declared.both.Place.{Place}
 use Rattle.pair_card.specs.declared.both.Place.TheVariants.{First, Second, Nowhere}
 
 -- what a place tells of the block

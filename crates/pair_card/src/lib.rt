@@ -1,4 +1,6 @@
 // Two cards joined into one.
+#![tactic(auto)]
+
 ghost use Rattle.std.specs.Prelude.{◌≡◌, ℕ, List, length};
 ghost use Rattle.pair_card.specs.Paired.{both_shaped};
 ghost use Rattle.pair_card.specs.Pairs.{both_blocks, both_worn, hidden_blocks};

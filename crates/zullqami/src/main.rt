@@ -1,4 +1,6 @@
 // The recorder's tool. So far it does one task: it copies a recording from read-only memory to a card, around worn blocks, and reads it back.
+#![tactic(auto)]
+
 mod tally;
 mod transfer;
 

@@ -6,8 +6,8 @@ use Rattle.card_copy.proofs.copy.copy.Goals as goal
 pub loop-copied-init : goal.loop-copied-init
 loop-copied-init g c = (copied_none _ _ _ c.args.row.first c.args.start, refl, refl)
 
-pub overflow-add-row : goal.overflow-add-row
-overflow-add-row g c =
+pub overflow_add-row : goal.overflow_add-row
+overflow_add-row g c =
     let k = c.loop-copied.copied in
     let few = (g.S.ReadCard.shaped c.args.from.now).few in
     ⊎_elim
@@ -15,8 +15,8 @@ overflow-add-row g c =
     (λ (h : k ≤ 0). search rules)
     (cases_lt 0 k)
 
-pub overflow-add-start : goal.overflow-add-start
-overflow-add-start g c =
+pub overflow_add-start : goal.overflow_add-start
+overflow_add-start g c =
     let k = c.loop-copied.copied in
     let few = (g.D.ReadCard.shaped c.args.to.now).few in
     ⊎_elim
@@ -30,7 +30,7 @@ returns-in-Err g c =
     let one = c.in-Err.ensures in
     let stop =
     copied_stop (g.S.ReadCard.contents c.args.from.now) (g.D.ReadCard.contents c.args.to.now) (g.D.Card.worn c.args.to.now) c.args.row.first c.args.start c.loop-copied.copied
-    (g.D.ReadCard.contents c.loop-copied.to) (g.D.ReadCard.contents c.copy-block.new.to) (g.D.Card.worn c.loop-copied.to) so_far.0 so_far.1 c.in-Err.fault one.copied in
+    (g.D.ReadCard.contents c.loop-copied.to) (g.D.ReadCard.contents c.copy_block.new.to) (g.D.Card.worn c.loop-copied.to) so_far.0 so_far.1 c.in-Err.fault one.copied in
     record {
       copied = (stop.0, omega arith, stop.1);
       worn = one.worn ∙ so_far.1;
@@ -40,9 +40,9 @@ returns-in-Err g c =
 pub loop-copied-preserved : goal.loop-copied-preserved
 loop-copied-preserved g c =
     let so_far = c.loop-copied.invariant in
-    let one = c.in-default.ensures in (
+    let one = c.in_default.ensures in (
       copied_more (g.S.ReadCard.contents c.args.from.now) (g.D.ReadCard.contents c.args.to.now) (g.D.Card.worn c.args.to.now) c.args.row.first c.args.start c.loop-copied.copied
-          (g.D.ReadCard.contents c.loop-copied.to) (g.D.ReadCard.contents c.copy-block.new.to) (g.D.Card.worn c.loop-copied.to) so_far.0 so_far.1 one.copied,
+          (g.D.ReadCard.contents c.loop-copied.to) (g.D.ReadCard.contents c.copy_block.new.to) (g.D.Card.worn c.loop-copied.to) so_far.0 so_far.1 one.copied,
       one.worn ∙ so_far.1,
       one.kept ∙ so_far.2,
     )

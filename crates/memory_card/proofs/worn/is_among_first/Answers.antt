@@ -5,8 +5,8 @@ use Rattle.memory_card.specs.Worn.{marked}
 use Rattle.memory_card.proofs.worn.is_among_first.Goals as goal
 
 -- a part that is cut to the length is the part
-cut-to-length : (n m : ℕ) (xs : List ℕ) → m ≡ min n (length xs) → take (m - 0) xs ≡ take n xs
-cut-to-length n m xs e =
+cut_to_length : (n m : ℕ) (xs : List ℕ) → m ≡ min n (length xs) → take (m - 0) xs ≡ take n xs
+cut_to_length n m xs e =
     ⊎_elim
     (λ (h : n < length xs). let same : m - 0 ≡ n = omega arith in ap (λ k. take k xs) same)
     (λ (h : length xs ≤ n). take_all (m - 0) xs (omega arith) ∙ sym (take_all n xs h))
@@ -15,4 +15,4 @@ cut-to-length n m xs e =
 pub returns : goal.returns
 returns c =
     let numbers = c.args.numbers.now in
-    c.is-among.ensures ∙ ap (λ xs. marked xs c.args.b) (cut-to-length c.args.count c.min_count.result numbers c.min_count.ensures)
+    c.is_among.ensures ∙ ap (λ xs. marked xs c.args.b) (cut_to_length c.args.count c.min-count.result numbers c.min-count.ensures)

@@ -12,9 +12,9 @@ returns-in-First g c =
       written = done.0;
       count = done.1;
       hidden = done.2;
-      worn-first = c.write.ensures.worn;
-      worn-second = refl;
-      kept-first = c.write.ensures.kept;
+      worn_first = c.write.ensures.worn;
+      worn_second = refl;
+      kept_first = c.write.ensures.kept;
       kept_second = refl;
     }
 
@@ -28,9 +28,9 @@ returns-in-Second g c =
       written = done.0;
       count = refl;
       hidden = done.1;
-      worn-first = refl;
-      worn-second = c.write-in-Second.ensures.worn;
-      kept-first = refl;
+      worn_first = refl;
+      worn_second = c.write-in-Second.ensures.worn;
+      kept_first = refl;
       kept_second = c.write-in-Second.ensures.kept;
     }
 
@@ -42,8 +42,8 @@ returns-in-Nowhere g c =
           (g.P.Card.worn c.args.first.now) (g.Q.Card.worn c.args.second.now) c.args.buffer.now c.in-Nowhere.ensures;
       count = refl;
       hidden = refl;
-      worn-first = refl;
-      worn-second = refl;
-      kept-first = refl;
+      worn_first = refl;
+      worn_second = refl;
+      kept_first = refl;
       kept_second = refl;
     }

@@ -6,19 +6,19 @@ use Rattle.card_tests.specs.Zeros.{zero_block}
 use Rattle.card_tests.proofs.Zeroing.{length_zeros}
 use Rattle.card_tests.proofs.zero_card.ZeroCardReadCard.read.Goals as goal
 
-pub returns-in-err-check : goal.returns-in-err-check
-returns-in-err-check c = search (rules, length_zeros)
+pub returns-in_err-check : goal.returns-in_err-check
+returns-in_err-check c = search (rules, length_zeros)
 
 pub returns : goal.returns
 returns c =
     let n = c.args.self.now.count in
     let len = length c.args.buffer.now in
-    let passed = c.in-ok-check.ensures in
+    let passed = c.in_ok-check.ensures in
     let ok = granted n false c.args.b len passed in
     record {
       answer = passed ∙ ap (λ m. checked m false c.args.b len) (sym (length_zeros n));
-      buffer = c.copy-from-slice.ensures.after ∙ sym (get_or-replicate n c.args.b zero_block [] ok.inside);
+      buffer = c.copy_from_slice.ensures.after ∙ sym (get_or-replicate n c.args.b zero_block [] ok.inside);
     }
 
-pub copy-from-slice-requires : goal.copy-from-slice-requires
-copy-from-slice-requires c = (granted c.args.self.now.count false c.args.b (length c.args.buffer.now) c.in-ok-check.ensures).whole
+pub copy_from_slice-requires : goal.copy_from_slice-requires
+copy_from_slice-requires c = (granted c.args.self.now.count false c.args.b (length c.args.buffer.now) c.in_ok-check.ensures).whole
