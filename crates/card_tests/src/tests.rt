@@ -45,14 +45,14 @@ fn perform<C: Card>(card: &mut C, call: Call) -> (u32, u8) {
     }
 }
 
-// Whether the calls, one after the other, answer as the table says.
+// The calls, one after the other, have to answer as the table says.
 fn answers<C: Card>(rt: &impl Abort, card: &mut C, table: &[(Call, u32, u8)]) {
     for (call, number, byte) in table {
         assert_eq!(rt; perform(card, *call), (*number, *byte));
     }
 }
 
-// Whether the card has so many blocks, the first bytes of some are as the table says, and the next block is out of range.
+// The card has to have so many blocks, some with the first bytes of the table, and the next block is to be out of range.
 fn holds<C: ReadCard>(rt: &impl Abort, card: &C, count: u32, table: &[(u32, u8)]) {
     assert_eq!(rt; card.count(), count);
     for (b, byte) in table {
@@ -229,7 +229,7 @@ fn stop_of(r: Result<(), Stopped>, all: u32) -> (u32, u32) {
     }
 }
 
-// Whether copies to this memory, one after the other, stop as the table says: first, count and start, then how many and the number.
+// Copies to this memory, one after the other, have to stop as the table says: first, count and start, then how many and the number.
 fn stops(
     rt: &impl Abort,
     from: &[u8],
@@ -286,7 +286,7 @@ fn a_copy_goes_across_the_seam_of_a_pair(rt: HostRuntime) {
     memory_holds(&rt, &two, 2, &[(0, 5), (1, 0)]);
 }
 
-// Whether blocks compare as the table says: 1 for the same, 0 for others, 99 for a refusal.
+// Blocks have to compare as the table says: 1 for the same, 0 for others, 99 for a refusal.
 fn compares(rt: &impl Abort, one: &[u8], other: &[u8], table: &[(u32, u32, u8)]) {
     for (b, d, answer) in table {
         let same = match same_block(&ReadOnlyCard::new(one), *b, &ReadOnlyCard::new(other), *d) {

@@ -1,5 +1,5 @@
 -- The free blocks of a volume, their runs, and which of them a reserve takes.
-use Rattle.std.specs.Prelude.{ℕ, zero, suc, ◌+◌, ◌-◌, max, Bool, true, false, cond, ◌&&◌, List, [], ◌∷◌, ◌++◌, length, count_by, ◌==◌, nat_eq, nat_le, nat_lt}
+use Rattle.std.specs.Prelude.{ℕ, zero, suc, ◌+◌, ◌-◌, max, Bool, true, false, cond, ◌&&◌, List, [], ◌∷◌, ◌++◌, length, count_by, ◌==◌, nat_le, nat_lt}
 
 -- a set of blocks
 abbrev pub Blocks : Type 0
@@ -12,7 +12,7 @@ row b (suc n) = b ∷ row (suc b) n
 
 -- how often block b stands in a list
 abbrev pub times : List ℕ → ℕ → ℕ
-times bs b = count_by (λ x. nat_eq x b) bs
+times bs b = count_by (λ x. x == b) bs
 
 -- the set without the blocks of a list
 abbrev pub without : Blocks → List ℕ → Blocks
