@@ -1,8 +1,7 @@
 -- What the checks of a card tell.
-use Rattle.std.proofs.Common.{◌≡◌, ℕ, ◌<◌, ◌≤◌, Bool, true, false, cond, eqb, Ok, Err, sym, refl, ap, ◌∙◌, arith}
-use Rattle.std.proofs.lemmas.Bool.{lt-leb, le-leb}
+use Rattle.std.proofs.Common.{◌≡◌, ℕ, ◌<◌, ◌≤◌, Bool, false, Ok, Err, arith}
 use Rattle.std.proofs.lemmas.Bool.Decides.{nat_tests}
-use Rattle.card.specs.declared.fault.CardFault.TheVariants.{OutOfRange, WrongLength, Worn}
+use Rattle.card.specs.declared.fault.CardFault.TheVariants.{OutOfRange, Worn}
 use Rattle.card.specs.Faults.{checked}
 
 -- a granted call is on a block that the card has and that is not worn, with a buffer of one block
@@ -12,12 +11,19 @@ pub record Granted (count : ℕ) (worn : Bool) (b len : ℕ) : Type 0 where
   pub sound : worn ≡ false
 
 pub granted : (count : ℕ) (worn : Bool) (b len : ℕ) → Ok tt ≡ checked count worn b len → Granted count worn b len
-granted count true b len e = record { inside = grind (arith, nat_tests); whole = grind (arith, nat_tests); sound = grind (arith, nat_tests) }
-granted count false b len e = record { inside = grind (arith, nat_tests); whole = grind (arith, nat_tests); sound = refl }
+unfolding checked
+granted count worn b len e = grind (arith, nat_tests)
 
 -- of the count and the block number only their order matters
 pub checked_inside : (n m b c : ℕ) (worn : Bool) (len : ℕ) → b < n → c < m → checked n worn b len ≡ checked m worn c len
-checked_inside n m b c worn len h k = ap (λ past. cond past (Err OutOfRange) (cond (eqb len 512) (cond worn (Err Worn) (Ok tt)) (Err WrongLength))) (lt-leb n b h ∙ sym (lt-leb m c k))
+unfolding checked
+checked_inside n m b c worn len h k = grind (arith, nat_tests)
 
-pub checked_past : (n : ℕ) (worn : Bool) (b len : ℕ) → n ≤ b → Err OutOfRange ≡ checked n worn b len
-checked_past n worn b len h = ap (λ past. cond past (Err OutOfRange) (cond (eqb len 512) (cond worn (Err Worn) (Ok tt)) (Err WrongLength))) (sym (le-leb n b h))
+pub checked_past : (n : ℕ) (worn : Bool) (b len : ℕ) → n ≤ b → checked n worn b len ≡ Err OutOfRange
+unfolding checked
+checked_past n worn b len h = grind (arith, nat_tests)
+
+-- a worn block is one that the card has
+pub worn_inside : (count : ℕ) (worn : Bool) (b len : ℕ) → checked count worn b len ≡ Err Worn → b < count
+unfolding checked
+worn_inside count worn b len e = grind (arith, nat_tests)

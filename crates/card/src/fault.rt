@@ -9,7 +9,7 @@ pub const BLOCK_SIZE: usize = 512;
 pub const MOST_BLOCKS: u32 = 16777216;
 
 // A card's refusals, in the order in which it checks.
-#[derive(Clone, Copy)]
+#[derive(Clone, Copy, Debug, PartialEq, Eq)]
 pub enum CardFault {
     // the card has no block of that number
     OutOfRange,
@@ -32,6 +32,7 @@ impl CardFault {
 }
 
 // The first check that fails for a call on block `b` with a buffer of `len` bytes.
+#[tactic(auto, unfolding(crate::specs::Faults::checked))]
 pub fn check(count: u32, worn: bool, b: u32, len: usize) -> Result<(), CardFault>
     ensures { result ≡ checked count worn b len }
 {

@@ -5,9 +5,7 @@ use crate::fault::CardFault;
 use crate::{Card, ReadCard};
 
 impl<'a, C: ReadCard> ReadCard for &'a C {
-    ghost contents = { λ card. C.ReadCard.contents card.now };
-
-    ghost shaped = { λ card. C.ReadCard.shaped card.now };
+    ghost contents = { λ card. C.contents card.now };
 
     fn count(&self) -> u32 {
         (*self).count()
@@ -16,12 +14,12 @@ impl<'a, C: ReadCard> ReadCard for &'a C {
     fn read(&self, b: u32, buffer: &mut [u8]) -> Result<(), CardFault> {
         (*self).read(b, buffer)
     }
+
+    ghost shaped = { λ card. C.shaped card.now };
 }
 
 impl<'a, C: ReadCard> ReadCard for &'a mut C {
-    ghost contents = { λ card. C.ReadCard.contents card.now };
-
-    ghost shaped = { λ card. C.ReadCard.shaped card.now };
+    ghost contents = { λ card. C.contents card.now };
 
     fn count(&self) -> u32 {
         (**self).count()
@@ -30,14 +28,16 @@ impl<'a, C: ReadCard> ReadCard for &'a mut C {
     fn read(&self, b: u32, buffer: &mut [u8]) -> Result<(), CardFault> {
         (**self).read(b, buffer)
     }
+
+    ghost shaped = { λ card. C.shaped card.now };
 }
 
 impl<'a, C: Card> Card for &'a mut C {
-    ghost worn = { λ card. C.Card.worn card.now };
+    ghost Kept = { GName × C.Kept };
 
-    ghost Kept = { GName × C.Card.Kept };
+    ghost kept = { λ card. (card.ghost_name, C.kept card.now) };
 
-    ghost kept = { λ card. (card.ghost_name, C.Card.kept card.now) };
+    ghost worn = { λ kept. C.worn kept.1 };
 
     fn write(&mut self, b: u32, buffer: &[u8]) -> Result<(), CardFault> {
         (**self).write(b, buffer)

@@ -14,9 +14,6 @@ pub trait ReadCard {
     // its blocks in order, each as its bytes
     ghost contents: { Self → List (List ℕ) };
 
-    // at most 2^24 blocks of 512 bytes each: every implementation shows it
-    ghost shaped: { (card : Self) → Shaped (contents card) };
-
     // How many blocks the card has.
     fn count(&self) -> u32
         ensures { result ≡ length (contents self.now) };
@@ -24,22 +21,24 @@ pub trait ReadCard {
     // Copies block `b` into the buffer, or refuses and leaves the buffer as it was.
     fn read(&self, b: u32, buffer: &mut [u8]) -> Result<(), CardFault>
         ensures { Read (contents self.now) b buffer.old buffer.new result };
+
+    // A law, which every implementation proves: at most 2^24 blocks of 512 bytes each.
+    ghost shaped: { (card : Self) → Shaped (contents card) };
 }
 
 // A reading card that can be written, too. Some of its blocks may be worn: a write to one is refused, a read is not.
 pub trait Card: ReadCard {
-    // which blocks are worn
-    ghost worn: { Self → ℕ → Bool };
-
-    // what no call changes besides: the references by which the card reaches what it was lent, and what of that is in no block.
-    // Who lent it knows it again by this
+    // what no call changes: the references by which the card reaches what it was lent, what of that is in no block, and what says
+    // which blocks are worn. Who lent it knows it again by this
     ghost Kept: { Type 0 };
 
     ghost kept: { Self → Kept };
 
+    // which blocks are worn: as what no call changes says, so that no block ever gets worn or sound
+    ghost worn: { Kept → ℕ → Bool };
+
     // Stores the buffer as block `b`, or refuses and leaves the card as it was.
     fn write(&mut self, b: u32, buffer: &[u8]) -> Result<(), CardFault>
-        ensures written { Written (Self.ReadCard.contents self.old) (worn self.old b) b buffer.now (Self.ReadCard.contents self.new) result }
-        ensures worn { worn self.new ≡ worn self.old }
+        ensures written { Written (Self.contents self.old) (worn (kept self.old) b) b buffer.now (Self.contents self.new) result }
         ensures kept { kept self.new ≡ kept self.old };
 }

@@ -1,5 +1,5 @@
 -- What a copy from card to card leaves, and where it stops.
-use Rattle.std.specs.Prelude.{◌≡◌, ℕ, ◌+◌, ◌<◌, Bool, false, cond, List, [], length, drop, is_ok, Ok, Err, Result, slice_index_or, slice_set}
+use Rattle.std.specs.Prelude.{◌≡◌, ℕ, ◌+◌, ◌<◌, Bool, false, List, [], length, drop, is_ok, Ok, Err, Result, slice_index_or, slice_set, if◌then◌else◌}
 use Rattle.std.proofs.Math.Seq.{paste}
 use Rattle.card.specs.declared.fault.CardFault.{CardFault}
 use Rattle.card_copy.specs.declared.copy.CopyFault.{CopyFault}
@@ -23,7 +23,7 @@ module _ (source target : List (List ℕ)) (worn : ℕ → Bool) where
   -- the copy of one block
   pub record BlockCopied (b d : ℕ) (after : List (List ℕ)) (r : Result (Unit {0}) CopyFault) : Type 0 where
     pub answer : r ≡ copy_checked b d
-    pub contents : after ≡ cond (is_ok r) (slice_set target d (slice_index_or source b [])) target
+    pub contents : after ≡ (if is_ok r then slice_set target d (slice_index_or source b []) else target)
 
   -- k blocks from block first of the source on are now on the target from block start on, and the rest of the target is as it was
   pub record Copied (first start k : ℕ) (after : List (List ℕ)) : Type 0 where

@@ -1,5 +1,4 @@
 // Comparing the blocks of two cards.
-ghost use Rattle.std.specs.Prelude.{◌≡◌, Decides};
 ghost use Rattle.card_copy.specs.Compares.{Compared};
 
 use card::ReadCard;
@@ -12,17 +11,11 @@ pub fn same_block<P: ReadCard, Q: ReadCard>(
     other: &Q,
     d: u32,
 ) -> Result<bool, CardFault>
-    ensures { Compared (P.ReadCard.contents one.now) (Q.ReadCard.contents other.now) b d result }
+    ensures { Compared (P.contents one.now) (Q.contents other.now) b d result }
 {
     let mut left = [0u8; BLOCK_SIZE];
     let mut right = [0u8; BLOCK_SIZE];
     one.read(b, &mut left)?;
     other.read(d, &mut right)?;
-    Ok(same_bytes(&left, &right))
-}
-
-fn same_bytes(left: &[u8], right: &[u8]) -> bool
-    ensures { Decides result (left.now ≡ right.now) }
-{
-    left == right
+    Ok(left == right)
 }

@@ -6,21 +6,21 @@ use card::fault::{BLOCK_SIZE, CardFault};
 use card::{Card, ReadCard};
 
 // `count` blocks from block `first` on.
-#[derive(Clone, Copy)]
+#[derive(Clone, Copy, Debug, PartialEq, Eq)]
 pub struct Row {
     pub first: u32,
     pub count: u32,
 }
 
 // Which call of a copy was refused.
-#[derive(Clone, Copy)]
+#[derive(Clone, Copy, Debug, PartialEq, Eq)]
 pub enum CopyFault {
     Read(CardFault),
     Write(CardFault),
 }
 
 // Where a copy stopped: after so many blocks, at this refusal of the next.
-#[derive(Clone, Copy)]
+#[derive(Clone, Copy, Debug, PartialEq, Eq)]
 pub struct Stopped {
     pub copied: u32,
     pub fault: CopyFault,
@@ -33,30 +33,24 @@ pub fn copy_block<S: ReadCard, D: Card>(
     to: &mut D,
     d: u32,
 ) -> Result<(), CopyFault>
-    ensures copied { BlockCopied (S.ReadCard.contents from.now) (D.ReadCard.contents to.old) (D.Card.worn to.old) b d (D.ReadCard.contents to.new) result }
-    ensures worn { D.Card.worn to.new ≡ D.Card.worn to.old }
-    ensures kept { D.Card.kept to.new ≡ D.Card.kept to.old }
+    ensures copied { BlockCopied (S.contents from.now) (D.contents to.old) (D.worn (D.kept to.old)) b d (D.contents to.new) result }
+    ensures kept { D.kept to.new ≡ D.kept to.old }
 {
     let mut buffer = [0u8; BLOCK_SIZE];
-    if let Err(fault) = from.read(b, &mut buffer) {
-        return Err(CopyFault::Read(fault));
-    }
-    match to.write(d, &buffer) {
-        Ok(()) => Ok(()),
-        Err(fault) => Err(CopyFault::Write(fault)),
-    }
+    from.read(b, &mut buffer).map_err(CopyFault::Read)?;
+    to.write(d, &buffer).map_err(CopyFault::Write)
 }
 
 // Copies a row of blocks to the blocks from `start` on, in order, up to the first refusal.
 pub fn copy<S: ReadCard, D: Card>(from: &S, row: Row, to: &mut D, start: u32) -> Result<(), Stopped>
-    ensures copied { RowCopied (S.ReadCard.contents from.now) (D.ReadCard.contents to.old) (D.Card.worn to.old) row start (D.ReadCard.contents to.new) result }
-    ensures worn { D.Card.worn to.new ≡ D.Card.worn to.old }
-    ensures kept { D.Card.kept to.new ≡ D.Card.kept to.old }
+    ensures copied { RowCopied (S.contents from.now) (D.contents to.old) (D.worn (D.kept to.old)) row start (D.contents to.new) result }
+    ensures kept { D.kept to.new ≡ D.kept to.old }
 {
     for copied in 0..row.count {
-        if let Err(fault) = copy_block(from, row.first + copied, to, start + copied) {
-            return Err(Stopped { copied, fault });
-        }
+        copy_block(from, row.first + copied, to, start + copied).map_err(|fault| Stopped {
+            copied,
+            fault,
+        })?;
     }
     Ok(())
 }

@@ -1,5 +1,5 @@
 // Work on memory through cards: who lends the memory learns what it then holds.
-ghost use Rattle.std.specs.Prelude.{◌≡◌, [], length, take};
+ghost use Rattle.std.specs.Prelude.{◌≡◌, [], length};
 ghost use Rattle.memory_card.specs.Blocks.{blocks_of, rest_of};
 ghost use Rattle.card.specs.Cards.{Written};
 ghost use Rattle.card_copy.specs.Copies.{RowCopied};
@@ -21,7 +21,7 @@ pub fn write_memory(
     b: u32,
     buffer: &[u8],
 ) -> Result<(), CardFault>
-    ensures written { Written (blocks_of memory.old) (marked (take worn.count worn.numbers) b) b buffer.now (blocks_of memory.new) result }
+    ensures written { Written (blocks_of memory.old) (marked worn b) b buffer.now (blocks_of memory.new) result }
     ensures rest { rest_of memory.new ≡ rest_of memory.old }
 {
     let mut card = MemoryCard::new(memory, worn);
@@ -37,7 +37,7 @@ pub fn copy_memory(
     start: u32,
 ) -> Result<(), Stopped>
     ensures rest { rest_of to.new ≡ rest_of to.old }
-    ensures copied { RowCopied (blocks_of from.now) (blocks_of to.old) (marked (take worn.count worn.numbers)) row start (blocks_of to.new) result }
+    ensures copied { RowCopied (blocks_of from.now) (blocks_of to.old) (marked worn) row start (blocks_of to.new) result }
 {
     let source = ReadOnlyCard::new(from);
     let mut target = MemoryCard::new(to, worn);
@@ -52,11 +52,11 @@ pub fn copy_to_both<S: ReadCard, P: Card, Q: Card>(
     second: &mut Q,
     start: u32,
 ) -> Result<(), Stopped>
-    ensures copied { RowCopied (S.ReadCard.contents from.now) (both_blocks (P.ReadCard.contents first.old) (Q.ReadCard.contents second.old)) (both_worn (length (P.ReadCard.contents first.old)) (P.Card.worn first.old) (Q.Card.worn second.old)) row start (both_blocks (P.ReadCard.contents first.new) (Q.ReadCard.contents second.new)) result }
-    ensures count { length (P.ReadCard.contents first.new) ≡ length (P.ReadCard.contents first.old) }
-    ensures hidden { hidden_blocks (P.ReadCard.contents first.new) (Q.ReadCard.contents second.new) ≡ hidden_blocks (P.ReadCard.contents first.old) (Q.ReadCard.contents second.old) }
-    ensures first { P.Card.kept first.new ≡ P.Card.kept first.old }
-    ensures second { Q.Card.kept second.new ≡ Q.Card.kept second.old }
+    ensures copied { RowCopied (S.contents from.now) (both_blocks (P.contents first.old) (Q.contents second.old)) (both_worn (length (P.contents first.old)) (P.worn (P.kept first.old)) (Q.worn (Q.kept second.old))) row start (both_blocks (P.contents first.new) (Q.contents second.new)) result }
+    ensures count { length (P.contents first.new) ≡ length (P.contents first.old) }
+    ensures hidden { hidden_blocks (P.contents first.new) (Q.contents second.new) ≡ hidden_blocks (P.contents first.old) (Q.contents second.old) }
+    ensures first { P.kept first.new ≡ P.kept first.old }
+    ensures second { Q.kept second.new ≡ Q.kept second.old }
 {
     let mut pair = PairCard::new(first, second);
     copy(from, row, &mut pair, start)

@@ -2,8 +2,10 @@
 use crate::clients::{copy_memory, copy_to_memories};
 use crate::zero_card::ZeroCard;
 use card::fault::CardFault;
+use card::fault::CardFault::{OutOfRange, Worn, WrongLength};
 use card::{Card, ReadCard};
 use card_copy::compare::same_block;
+use card_copy::copy::CopyFault::{Read, Write};
 use card_copy::copy::{CopyFault, Row, Stopped};
 use memory_card::memory::MemoryCard;
 use memory_card::read_only::ReadOnlyCard;
@@ -19,36 +21,28 @@ enum Call {
     Write(u32, usize, u8),
 }
 
-// 0, or the number of the refusal.
-fn number_of(r: Result<(), CardFault>) -> u32 {
-    match r {
-        Ok(()) => 0,
-        Err(fault) => fault.number(),
-    }
-}
-
-// The number that a read answers, and the first byte of its buffer, which was 99.
-fn read<C: ReadCard>(card: &C, b: u32, len: usize) -> (u32, u8) {
+// What a read answers, and the first byte of its buffer, which was 99.
+fn read<C: ReadCard>(card: &C, b: u32, len: usize) -> (Result<(), CardFault>, u8) {
     let mut buffer = [99u8; 600];
-    let number = number_of(card.read(b, &mut buffer[0..len.min(600)]));
-    (number, buffer[0])
+    let answer = card.read(b, &mut buffer[..len.min(600)]);
+    (answer, buffer[0])
 }
 
 // The same of any call: after a write, the byte written.
-fn perform<C: Card>(card: &mut C, call: Call) -> (u32, u8) {
+fn perform<C: Card>(card: &mut C, call: Call) -> (Result<(), CardFault>, u8) {
     match call {
         Call::Read(b, len) => read(&*card, b, len),
         Call::Write(b, len, byte) => {
             let buffer = [byte; 600];
-            (number_of(card.write(b, &buffer[0..len.min(600)])), byte)
+            (card.write(b, &buffer[..len.min(600)]), byte)
         }
     }
 }
 
 // The calls, one after the other, have to answer as the table says.
-fn answers<C: Card>(rt: &impl Abort, card: &mut C, table: &[(Call, u32, u8)]) {
-    for (call, number, byte) in table {
-        assert_eq!(rt; perform(card, *call), (*number, *byte));
+fn answers<C: Card>(rt: &impl Abort, card: &mut C, table: &[(Call, Result<(), CardFault>, u8)]) {
+    for (call, answer, byte) in table {
+        assert_eq!(rt; perform(card, *call), (*answer, *byte));
     }
 }
 
@@ -56,9 +50,9 @@ fn answers<C: Card>(rt: &impl Abort, card: &mut C, table: &[(Call, u32, u8)]) {
 fn holds<C: ReadCard>(rt: &impl Abort, card: &C, count: u32, table: &[(u32, u8)]) {
     assert_eq!(rt; card.count(), count);
     for (b, byte) in table {
-        assert_eq!(rt; read(card, *b, 512), (0, *byte));
+        assert_eq!(rt; read(card, *b, 512), (Ok(()), *byte));
     }
-    assert_eq!(rt; read(card, count, 512), (1, 99));
+    assert_eq!(rt; read(card, count, 512), (Err(OutOfRange), 99));
 }
 
 fn memory_holds(rt: &impl Abort, memory: &[u8], count: u32, table: &[(u32, u8)]) {
@@ -66,10 +60,7 @@ fn memory_holds(rt: &impl Abort, memory: &[u8], count: u32, table: &[(u32, u8)])
 }
 
 fn worn(numbers: &[u32]) -> Result<WornList, Fail> {
-    match WornList::new(numbers) {
-        Some(list) => Ok(list),
-        None => Err(Fail::new("too many worn blocks")),
-    }
+    WornList::new(numbers).ok_or_else(|| Fail::new("too many worn blocks"))
 }
 
 #[test]
@@ -98,8 +89,8 @@ fn memory_of_less_than_a_block_refuses_every_call(rt: HostRuntime) {
         &rt,
         &mut card,
         &[
-            (Call::Write(0, 512, 5), 1, 5),
-            (Call::Write(u32::MAX, 0, 5), 1, 5),
+            (Call::Write(0, 512, 5), Err(OutOfRange), 5),
+            (Call::Write(u32::MAX, 0, 5), Err(OutOfRange), 5),
         ],
     );
 }
@@ -112,16 +103,16 @@ fn checks_come_in_their_order(rt: HostRuntime) -> Result<(), Fail> {
         &rt,
         &mut card,
         &[
-            (Call::Read(0, 0), 2, 99),
-            (Call::Read(0, 511), 2, 99),
-            (Call::Read(0, 513), 2, 99),
-            (Call::Read(3, 513), 1, 99),
-            (Call::Write(1, 0, 4), 2, 4),
-            (Call::Write(1, 511, 4), 2, 4),
-            (Call::Write(1, 513, 4), 2, 4),
-            (Call::Write(1, 512, 4), 3, 4),
-            (Call::Write(3, 511, 4), 1, 4),
-            (Call::Write(2, 512, 5), 0, 5),
+            (Call::Read(0, 0), Err(WrongLength), 99),
+            (Call::Read(0, 511), Err(WrongLength), 99),
+            (Call::Read(0, 513), Err(WrongLength), 99),
+            (Call::Read(3, 513), Err(OutOfRange), 99),
+            (Call::Write(1, 0, 4), Err(WrongLength), 4),
+            (Call::Write(1, 511, 4), Err(WrongLength), 4),
+            (Call::Write(1, 513, 4), Err(WrongLength), 4),
+            (Call::Write(1, 512, 4), Err(Worn), 4),
+            (Call::Write(3, 511, 4), Err(OutOfRange), 4),
+            (Call::Write(2, 512, 5), Ok(()), 5),
         ],
     );
     memory_holds(&rt, &memory, 3, &[(0, 3), (1, 3), (2, 5)]);
@@ -151,12 +142,12 @@ fn a_pair_has_the_blocks_of_both(rt: HostRuntime) -> Result<(), Fail> {
         &rt,
         &mut pair,
         &[
-            (Call::Read(3, 511), 2, 99),
-            (Call::Write(0, 512, 10), 0, 10),
-            (Call::Write(1, 512, 11), 3, 11),
-            (Call::Write(2, 512, 12), 3, 12),
-            (Call::Write(3, 512, 13), 0, 13),
-            (Call::Write(4, 511, 14), 1, 14),
+            (Call::Read(3, 511), Err(WrongLength), 99),
+            (Call::Write(0, 512, 10), Ok(()), 10),
+            (Call::Write(1, 512, 11), Err(Worn), 11),
+            (Call::Write(2, 512, 12), Err(Worn), 12),
+            (Call::Write(3, 512, 13), Ok(()), 13),
+            (Call::Write(4, 511, 14), Err(OutOfRange), 14),
         ],
     );
     memory_holds(&rt, &one, 2, &[(0, 10), (1, 1)]);
@@ -178,8 +169,8 @@ fn a_pair_of_pairs_is_a_card(rt: HostRuntime) {
         &rt,
         &mut cards,
         &[
-            (Call::Write(2, 512, 20), 0, 20),
-            (Call::Write(3, 512, 30), 3, 30),
+            (Call::Write(2, 512, 20), Ok(()), 20),
+            (Call::Write(3, 512, 30), Err(Worn), 30),
         ],
     );
     holds(
@@ -198,8 +189,8 @@ fn every_card_stops_at_the_most_blocks(rt: HostRuntime) {
         &rt,
         &mut pair,
         &[
-            (Call::Write(16777215, 512, 1), 3, 1),
-            (Call::Write(16777216, 512, 1), 1, 1),
+            (Call::Write(16777215, 512, 1), Err(Worn), 1),
+            (Call::Write(16777216, 512, 1), Err(OutOfRange), 1),
         ],
     );
     holds(
@@ -210,43 +201,27 @@ fn every_card_stops_at_the_most_blocks(rt: HostRuntime) {
     );
 }
 
-// How many blocks a copy copied, and the number of its refusal, 100 more for a write's.
-fn stop_of(r: Result<(), Stopped>, all: u32) -> (u32, u32) {
-    match r {
-        Ok(()) => (all, 0),
-        Err(
-            Stopped {
-                copied,
-                fault: CopyFault::Read(fault),
-            },
-        ) => (copied, fault.number()),
-        Err(
-            Stopped {
-                copied,
-                fault: CopyFault::Write(fault),
-            },
-        ) => (copied, 100 + fault.number()),
-    }
+// The answer of a copy that stopped after so many blocks.
+fn stop(copied: u32, fault: CopyFault) -> Result<(), Stopped> {
+    Err(Stopped { copied, fault })
 }
 
-// Copies to this memory, one after the other, have to stop as the table says: first, count and start, then how many and the number.
+// Copies to this memory, one after the other, have to answer as the table says: a row, where it goes to, and the answer.
 fn stops(
     rt: &impl Abort,
     from: &[u8],
     to: &mut [u8],
     list: WornList,
-    table: &[(u32, u32, u32, u32, u32)],
+    table: &[(Row, u32, Result<(), Stopped>)],
 ) {
-    for (first, count, start, copied, number) in table {
-        let row = Row {
-            first: *first,
-            count: *count,
-        };
-        assert_eq!(rt;
-            stop_of(copy_memory(from, row, to, list, *start), *count),
-            (*copied, *number)
-        );
+    for (row, start, answer) in table {
+        assert_eq!(rt; copy_memory(from, *row, to, list, *start), *answer);
     }
+}
+
+// `count` blocks from block `first` on.
+fn row(first: u32, count: u32) -> Row {
+    Row { first, count }
 }
 
 #[test]
@@ -258,12 +233,12 @@ fn a_copy_stops_at_the_first_refusal(rt: HostRuntime) -> Result<(), Fail> {
         &mut target,
         worn(&[3])?,
         &[
-            (0, 4, 1, 2, 103),
-            (2, 3, 0, 2, 1),
-            (0, 2, 4, 1, 101),
-            (9, 0, 9, 0, 0),
-            (u32::MAX, u32::MAX, 0, 0, 1),
-            (0, u32::MAX, u32::MAX, 0, 101),
+            (row(0, 4), 1, stop(2, Write(Worn))),
+            (row(2, 3), 0, stop(2, Read(OutOfRange))),
+            (row(0, 2), 4, stop(1, Write(OutOfRange))),
+            (row(9, 0), 9, Ok(())),
+            (row(u32::MAX, u32::MAX), 0, stop(0, Read(OutOfRange))),
+            (row(0, u32::MAX), u32::MAX, stop(0, Write(OutOfRange))),
         ],
     );
     memory_holds(&rt, &target, 5, &[(0, 5), (1, 5), (2, 5), (3, 0), (4, 5)]);
@@ -274,27 +249,24 @@ fn a_copy_stops_at_the_first_refusal(rt: HostRuntime) -> Result<(), Fail> {
 fn a_copy_goes_across_the_seam_of_a_pair(rt: HostRuntime) {
     let mut one = [0u8; 1024];
     let mut two = [0u8; 1024];
-    let r = copy_to_memories(
-        &[5; 1024],
-        Row { first: 0, count: 2 },
-        &mut one,
-        &mut two,
-        1,
+    assert_eq!(rt;
+        copy_to_memories(&[5; 1024], row(0, 2), &mut one, &mut two, 1),
+        Ok(())
     );
-    assert_eq!(rt; stop_of(r, 2), (2, 0));
     memory_holds(&rt, &one, 2, &[(0, 0), (1, 5)]);
     memory_holds(&rt, &two, 2, &[(0, 5), (1, 0)]);
 }
 
-// Blocks have to compare as the table says: 1 for the same, 0 for others, 99 for a refusal.
-fn compares(rt: &impl Abort, one: &[u8], other: &[u8], table: &[(u32, u32, u8)]) {
+// Blocks have to compare as the table says.
+fn compares(
+    rt: &impl Abort,
+    one: &[u8],
+    other: &[u8],
+    table: &[(u32, u32, Result<bool, CardFault>)],
+) {
+    let (one, other) = (ReadOnlyCard::new(one), ReadOnlyCard::new(other));
     for (b, d, answer) in table {
-        let same = match same_block(&ReadOnlyCard::new(one), *b, &ReadOnlyCard::new(other), *d) {
-            Ok(true) => 1,
-            Ok(false) => 0,
-            Err(_) => 99,
-        };
-        assert_eq!(rt; same, *answer);
+        assert_eq!(rt; same_block(&one, *b, &other, *d), *answer);
     }
 }
 
@@ -306,6 +278,12 @@ fn blocks_are_compared_byte_by_byte(rt: HostRuntime) {
         &rt,
         &[5; 1024],
         &other,
-        &[(0, 0, 1), (1, 0, 1), (0, 1, 0), (2, 0, 99), (0, 2, 99)],
+        &[
+            (0, 0, Ok(true)),
+            (1, 0, Ok(true)),
+            (0, 1, Ok(false)),
+            (2, 0, Err(OutOfRange)),
+            (0, 2, Err(OutOfRange)),
+        ],
     );
 }

@@ -5,7 +5,7 @@ ghost use Rattle.card_tests.specs.Zeros.{zeros, zeros_shaped};
 use card::fault::{BLOCK_SIZE, CardFault, MOST_BLOCKS, check};
 use card::{Card, ReadCard};
 
-#[derive(Clone, Copy)]
+#[derive(Clone, Copy, Debug, PartialEq, Eq)]
 pub struct ZeroCard {
     count: u32,
     ghost few: { count ≤ 16777216 },
@@ -25,26 +25,28 @@ impl ZeroCard {
 impl ReadCard for ZeroCard {
     ghost contents = { λ card. zeros card.count };
 
-    ghost shaped = { λ card. zeros_shaped card.count card.few };
-
     fn count(&self) -> u32 {
         self.count
     }
 
+    #[tactic(auto, using(crate::proofs::Zeroing::steps), unfolding(card::specs::Faults::checked))]
     fn read(&self, b: u32, buffer: &mut [u8]) -> Result<(), CardFault> {
         check(self.count, false, b, buffer.len())?;
         buffer.copy_from_slice(&[0; BLOCK_SIZE]);
         Ok(())
     }
+
+    ghost shaped = { λ card. zeros_shaped card.count card.few };
 }
 
 impl Card for ZeroCard {
-    ghost worn = { λ _ _. true };
-
     ghost Kept = { Unit {0} };
 
     ghost kept = { λ _. tt };
 
+    ghost worn = { λ _ _. true };
+
+    #[tactic(auto, using(crate::proofs::Zeroing::steps), unfolding(card::specs::Faults::checked))]
     fn write(&mut self, b: u32, buffer: &[u8]) -> Result<(), CardFault> {
         check(self.count, true, b, buffer.len())
     }

@@ -1,1 +1,1 @@
-mod Storing
+pub mod Storing

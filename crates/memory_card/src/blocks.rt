@@ -6,12 +6,14 @@ ghost use Rattle.card.specs.Cards.{Read, Written};
 use card::fault::{BLOCK_SIZE, CardFault, MOST_BLOCKS, check};
 
 // How many whole blocks fit.
+#[tactic(auto, using(crate::specs::Stored::length_blocks))]
 pub(crate) fn count_blocks(memory: &[u8]) -> u32
     ensures { result ≡ length (blocks_of memory.now) }
 {
     (memory.len() / BLOCK_SIZE).min(MOST_BLOCKS as usize) as u32
 }
 
+#[tactic(auto, using(crate::proofs::Storing::reads), unfolding(card::specs::Faults::checked))]
 pub(crate) fn read_block(memory: &[u8], b: u32, buffer: &mut [u8]) -> Result<(), CardFault>
     ensures { Read (blocks_of memory.now) b buffer.old buffer.new result }
 {
@@ -21,6 +23,7 @@ pub(crate) fn read_block(memory: &[u8], b: u32, buffer: &mut [u8]) -> Result<(),
     Ok(())
 }
 
+#[tactic(auto, using(crate::proofs::Storing::writes), unfolding(card::specs::Faults::checked))]
 pub(crate) fn write_block(
     memory: &mut [u8],
     worn: bool,

@@ -1,5 +1,5 @@
 // A writing card over memory on loan.
-ghost use Rattle.std.specs.Prelude.{◌≡◌, ℕ, List, take};
+ghost use Rattle.std.specs.Prelude.{◌≡◌, ℕ, List};
 ghost use Rattle.std.specs.Borrow.{GName};
 ghost use Rattle.memory_card.specs.Blocks.{blocks_of, rest_of};
 ghost use Rattle.memory_card.specs.Stored.{blocks_shaped};
@@ -30,8 +30,6 @@ impl<'a> MemoryCard<'a> {
 impl<'a> ReadCard for MemoryCard<'a> {
     ghost contents = { λ card. blocks_of card.memory.now };
 
-    ghost shaped = { λ card. blocks_shaped card.memory.now };
-
     fn count(&self) -> u32 {
         count_blocks(self.memory)
     }
@@ -39,14 +37,17 @@ impl<'a> ReadCard for MemoryCard<'a> {
     fn read(&self, b: u32, buffer: &mut [u8]) -> Result<(), CardFault> {
         read_block(self.memory, b, buffer)
     }
+
+    ghost shaped = { λ card. blocks_shaped card.memory.now };
 }
 
 impl<'a> Card for MemoryCard<'a> {
-    ghost worn = { λ card. marked (take card.worn.count card.worn.numbers) };
+    // the loan, the bytes that are in no block, and the worn blocks
+    ghost Kept = { GName × List ℕ × List ℕ };
 
-    ghost Kept = { GName × List ℕ };
+    ghost kept = { λ card. (card.memory.ghost_name, rest_of card.memory.now, card.worn) };
 
-    ghost kept = { λ card. (card.memory.ghost_name, rest_of card.memory.now) };
+    ghost worn = { λ kept. marked kept.2 };
 
     fn write(&mut self, b: u32, buffer: &[u8]) -> Result<(), CardFault> {
         let worn = self.worn.contains(b);

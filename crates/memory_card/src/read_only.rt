@@ -24,8 +24,6 @@ impl<'a> ReadOnlyCard<'a> {
 impl<'a> ReadCard for ReadOnlyCard<'a> {
     ghost contents = { λ card. blocks_of card.memory.now };
 
-    ghost shaped = { λ card. blocks_shaped card.memory.now };
-
     fn count(&self) -> u32 {
         count_blocks(self.memory)
     }
@@ -33,4 +31,6 @@ impl<'a> ReadCard for ReadOnlyCard<'a> {
     fn read(&self, b: u32, buffer: &mut [u8]) -> Result<(), CardFault> {
         read_block(self.memory, b, buffer)
     }
+
+    ghost shaped = { λ card. blocks_shaped card.memory.now };
 }

@@ -1,1 +1,1 @@
-mod Pairing
+pub mod Pairing

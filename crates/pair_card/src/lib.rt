@@ -1,22 +1,26 @@
 // Two cards joined into one.
 #![tactic(auto)]
 
-ghost use Rattle.std.specs.Prelude.{◌≡◌, ℕ, List, length};
+ghost use Rattle.std.specs.Prelude.{◌≡◌, ℕ, ◌+◌, min, List, length};
+ghost use Rattle.card.specs.Sizes.{most_blocks};
+ghost use Rattle.pair_card.specs.Pairs.{both_blocks, both_worn, hidden_blocks, place_of};
 ghost use Rattle.pair_card.specs.Paired.{both_shaped};
-ghost use Rattle.pair_card.specs.Pairs.{both_blocks, both_worn, hidden_blocks};
 
-use card::fault::CardFault;
+use card::fault::{CardFault, MOST_BLOCKS};
 use card::{Card, ReadCard};
-
-mod both;
-
-use both::{count_both, read_both, write_both};
 
 // The blocks of the first card, then those of the second, up to the most that a card has.
 #[derive(Drop)]
 pub struct PairCard<P, Q> {
     first: P,
     second: Q,
+}
+
+// Which of the two cards has a block of the pair, and under which number.
+#[derive(Clone, Copy, Debug, PartialEq, Eq)]
+enum Place {
+    First(u32),
+    Second(u32),
 }
 
 impl<P, Q> PairCard<P, Q> {
@@ -28,29 +32,62 @@ impl<P, Q> PairCard<P, Q> {
     }
 }
 
-impl<P: ReadCard, Q: ReadCard> ReadCard for PairCard<P, Q> {
-    ghost contents = { λ card. both_blocks (P.ReadCard.contents card.first) (Q.ReadCard.contents card.second) };
-
-    ghost shaped = { λ card. both_shaped _ _ (P.ReadCard.shaped card.first) (Q.ReadCard.shaped card.second) };
-
-    fn count(&self) -> u32 {
-        count_both(&self.first, &self.second)
-    }
-
-    fn read(&self, b: u32, buffer: &mut [u8]) -> Result<(), CardFault> {
-        read_both(&self.first, &self.second, b, buffer)
+impl<P: ReadCard, Q: ReadCard> PairCard<P, Q> {
+    // The place of block `b`, which the pair may not have.
+    fn locate(&self, b: u32) -> Result<Place, CardFault>
+        ensures { result ≡ place_of (length (P.contents self.now.first)) (length (Q.contents self.now.second)) b }
+    {
+        let first = self.first.count();
+        if b >= joined_count(first, self.second.count()) {
+            return Err(CardFault::OutOfRange);
+        }
+        if b < first {
+            Ok(Place::First(b))
+        } else {
+            Ok(Place::Second(b - first))
+        }
     }
 }
 
-impl<P: Card, Q: Card> Card for PairCard<P, Q> {
-    ghost worn = { λ card. both_worn (length (P.ReadCard.contents card.first)) (P.Card.worn card.first) (Q.Card.worn card.second) };
+impl<P: ReadCard, Q: ReadCard> ReadCard for PairCard<P, Q> {
+    ghost contents = { λ card. both_blocks (P.contents card.first) (Q.contents card.second) };
 
-    // each card keeps what it keeps, the first its count, and no call reaches the hidden blocks
-    ghost Kept = { P.Card.Kept × Q.Card.Kept × ℕ × List (List ℕ) };
-
-    ghost kept = { λ card. (P.Card.kept card.first, Q.Card.kept card.second, length (P.ReadCard.contents card.first), hidden_blocks (P.ReadCard.contents card.first) (Q.ReadCard.contents card.second)) };
-
-    fn write(&mut self, b: u32, buffer: &[u8]) -> Result<(), CardFault> {
-        write_both(&mut self.first, &mut self.second, b, buffer)
+    #[tactic(auto, using(crate::specs::Paired::length_both))]
+    fn count(&self) -> u32 {
+        joined_count(self.first.count(), self.second.count())
     }
+
+    #[tactic(auto, using(crate::proofs::Pairing::reads))]
+    fn read(&self, b: u32, buffer: &mut [u8]) -> Result<(), CardFault> {
+        match self.locate(b)? {
+            Place::First(k) => self.first.read(k, buffer),
+            Place::Second(k) => self.second.read(k, buffer),
+        }
+    }
+
+    ghost shaped = { λ card. both_shaped _ _ (P.shaped card.first) (Q.shaped card.second) };
+}
+
+impl<P: Card, Q: Card> Card for PairCard<P, Q> {
+    // each card keeps what it keeps, the first its count, and no call reaches the hidden blocks
+    ghost Kept = { P.Kept × Q.Kept × ℕ × List (List ℕ) };
+
+    ghost kept = { λ card. (P.kept card.first, Q.kept card.second, length (P.contents card.first), hidden_blocks (P.contents card.first) (Q.contents card.second)) };
+
+    ghost worn = { λ kept. both_worn kept.2 (P.worn kept.0) (Q.worn kept.1) };
+
+    #[tactic(auto, using(crate::proofs::Pairing::writes))]
+    fn write(&mut self, b: u32, buffer: &[u8]) -> Result<(), CardFault> {
+        match self.locate(b)? {
+            Place::First(k) => self.first.write(k, buffer),
+            Place::Second(k) => self.second.write(k, buffer),
+        }
+    }
+}
+
+// How many blocks two cards have together, at most as many as a card has.
+fn joined_count(first: u32, second: u32) -> u32
+    ensures { result ≡ min most_blocks (first + second) }
+{
+    first.saturating_add(second).min(MOST_BLOCKS)
 }

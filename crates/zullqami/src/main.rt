@@ -4,7 +4,7 @@
 mod tally;
 mod transfer;
 
-use anyhow::anyhow;
+use anyhow::Context;
 use card::fault::BLOCK_SIZE;
 use card::{Card, ReadCard};
 use memory_card::memory::MemoryCard;
@@ -41,7 +41,7 @@ fn move_to_card<S: ReadCard, D: Card>(
     )?;
     println!(rt;
         "card: {} blocks in two memories, some of them worn",
-        (*card).count()
+        card.count()
     )?;
     let mut tally = transfer(rt, recording, card)?;
     probe(rt, card, &mut tally)?;
@@ -54,19 +54,14 @@ fn move_to_card<S: ReadCard, D: Card>(
 }
 
 fn worn_list(numbers: &[u32]) -> anyhow::Result<WornList> {
-    match WornList::new(numbers) {
-        Some(list) => Ok(list),
-        None => Err(anyhow!("more than 16 worn blocks")),
-    }
+    WornList::new(numbers).context("more than 16 worn blocks")
 }
 
 // So many blocks, no two of them alike.
 fn make_recording(heap: Global, blocks: u8) -> Result<Vec<u8>, AllocError> {
     let mut bytes = Vec::new(heap);
     for block in 0..blocks {
-        for i in 0..BLOCK_SIZE {
-            bytes.push(block.wrapping_add((i % 256) as u8))?;
-        }
+        bytes.extend((0..BLOCK_SIZE).map(|i| block.wrapping_add((i % 256) as u8)))?;
     }
     Ok(bytes)
 }
