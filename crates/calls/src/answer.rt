@@ -1,11 +1,11 @@
-// What a call on a volume answers.
+// What a call on a volume answers where it is granted, and the number of each answer.
 ghost use Rattle.std.specs.Prelude.{◌≡◌};
 ghost use Rattle.calls.specs.Answers.{answer_number};
 
 use crate::kind::Kind;
 use crate::refusal::Refusal;
 
-#[derive(Clone, Copy)]
+#[derive(Clone, Copy, Debug, PartialEq, Eq)]
 pub enum Answer {
     // granted, and nothing more to tell
     Done,
@@ -19,18 +19,14 @@ pub enum Answer {
     Tallied { free: u32, longest: u32, spare: u32 },
     // map: the bytes that its lines took
     Bytes { count: u32 },
-    // refused, and nothing is changed
-    Refused { why: Refusal },
 }
 
-impl Answer {
-    // 0 where the call was granted, else the number of the refusal
-    pub fn number(self) -> u32
-        ensures { result ≡ answer_number self }
-    {
-        match self {
-            Answer::Refused { why } => why.number(),
-            _ => 0,
-        }
+// 0 where a call was granted, else the number of the refusal
+pub fn number<T>(answer: &Result<T, Refusal>) -> u32
+    ensures { result ≡ answer_number answer.now }
+{
+    match answer {
+        Ok(_) => 0,
+        Err(why) => why.number(),
     }
 }

@@ -1,5 +1,5 @@
 // The calls on a volume, with the numbers that each is given. A call that takes a buffer is lent it beside these.
-#[derive(Clone, Copy)]
+#[derive(Clone, Copy, Debug, PartialEq, Eq)]
 pub enum Call {
     // puts `count` holes before place `at`
     Insert { file: u32, at: u32, count: u32 },

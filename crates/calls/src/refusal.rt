@@ -4,7 +4,7 @@ ghost use Rattle.calls.specs.Refusals.{refusal_number};
 
 use card::fault::CardFault;
 
-#[derive(Clone, Copy)]
+#[derive(Clone, Copy, Debug, PartialEq, Eq)]
 pub enum Refusal {
     // the size of a volume, or a table of it, is outside its limits
     OutsideLimits,

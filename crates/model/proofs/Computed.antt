@@ -1,5 +1,5 @@
 -- The examples, computed.
-use Rattle.std.proofs.Common.{◌≡◌, ℕ, suc, ◌+◌, ◌-◌, ◌<◌, ◌≤◌, [], ◌∷◌, refl, arith}
+use Rattle.std.proofs.Common.{◌≡◌, ℕ, suc, ◌+◌, ◌-◌, ◌<◌, ◌≤◌, [], ◌∷◌, Ok, refl, arith}
 use Rattle.std.specs.Fmt.{digits}
 use Rattle.std.proofs.lemmas.Bool.{ne_eqb, le-ltb}
 use Rattle.calls.specs.declared.call.Call.TheVariants.{Insert}
@@ -12,7 +12,7 @@ unfolding digits
 listing_answered = refl
 
 -- an insert of any number of places up to the most, into an empty file
-pub inserts : (v e n : ℕ) → 0 < n → n ≤ 16777216 → answers v (suc e) (Insert 0 0 n ∷ []) ≡ Done ∷ []
+pub inserts : (v e n : ℕ) → 0 < n → n ≤ 16777216 → answers v (suc e) (Insert 0 0 n ∷ []) ≡ Ok Done ∷ []
 inserts v e n some fits =
     let a = ne_eqb n 0 (λ z. omega arith) in
     let b = le-ltb 16777216 (0 + n) (omega arith) in

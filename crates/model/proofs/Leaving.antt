@@ -1,10 +1,9 @@
 -- What a call leaves alone.
-use Rattle.std.proofs.Common.{◌≡◌, ℕ, false, eqb, List, [], get_or, set, sym, refl, ap, arith}
+use Rattle.std.proofs.Common.{◌≡◌, ℕ, false, eqb, List, [], get_or, set, Err, sym, refl, ap, arith}
 use Rattle.std.proofs.lemmas.List.{get_or-set_other}
 use Rattle.std.proofs.lemmas.Bool.{eqb-false}
 use Rattle.calls.specs.declared.call.Call.{Call}
 use Rattle.calls.specs.declared.call.Call.TheVariants.{Insert, Collapse, Punch, ReserveWhole, ReserveSplit, Write, Read, Find, Length, Tally, Map, Drop}
-use Rattle.calls.specs.declared.answer.Answer.TheVariants.{Refused}
 use Rattle.calls.specs.Answers.{answer_number}
 use Rattle.calls.specs.Calls.{concerns}
 use Rattle.model.specs.Places.{Place}
@@ -15,7 +14,7 @@ use Rattle.model.proofs.Settled.{step_both, granted_zero, refused_some}
 
 pub refusals_leave : RefusalsLeave
 refusals_leave c m call buffer w =
-    step_both c m call buffer (λ o. o.answer ≡ Refused w → (o.next ≡ m) × (o.buffer ≡ buffer))
+    step_both c m call buffer (λ o. o.answer ≡ Err w → (o.next ≡ m) × (o.buffer ≡ buffer))
     (λ _ _. (refl, refl))
     (λ _ e. absurd (omega (arith, refused_some w, granted_zero c m call buffer, ap answer_number e)))
 

@@ -1,10 +1,11 @@
 -- What each granted call does to its file, place by place.
-use Rattle.std.proofs.Common.{◌≡◌, ℕ, ◌+◌, ◌-◌, ◌<◌, ◌≤◌, true, ◌&&◌, ltb, leb, List, [], length, get_or, drop, set, None, sym, refl, ap, ◌∙◌, subst, arith, length-drop, length-set}
+use Rattle.std.proofs.Common.{◌≡◌, ℕ, ◌+◌, ◌-◌, ◌<◌, ◌≤◌, true, ◌&&◌, ltb, leb, List, [], length, get_or, drop, set, None, Result, sym, refl, ap, ◌∙◌, subst, arith, length-drop, length-set}
 use Rattle.std.proofs.lemmas.List.{get_or-drop, get_or-set_same, get_or-set_other}
 use Rattle.std.proofs.lemmas.Bool.{ltb-false, leb-false, lt-ltb, le-ltb, le-leb, lt-leb, and_left, and_right, and_from, not-false, cond-true, cond-false}
 use Rattle.calls.specs.declared.kind.Kind.TheVariants.{Hole, Written}
 use Rattle.calls.specs.declared.call.Call.{Call}
 use Rattle.calls.specs.declared.call.Call.TheVariants.{Insert, Collapse, Punch, ReserveWhole, ReserveSplit, Write, Drop}
+use Rattle.calls.specs.declared.refusal.Refusal.{Refusal}
 use Rattle.calls.specs.declared.answer.Answer.{Answer}
 use Rattle.calls.specs.Answers.{answer_number}
 use Rattle.model.specs.Places.{Place, hole, all_holes, range, inserted, collapsed, punched, laid, reserved}
@@ -71,7 +72,7 @@ module _ (c : Config) (m : Model) (w : Within c m) (f at n : ℕ) (buffer : List
   changed : (ps : List Place) (Change : List Place → List Place → Type 0) → f < file_count → Change (file m f) ps → Change (file m f) (get_or (set m.files f ps) f [])
   changed ps Change lt so = subst (Change (file m f)) (sym (get_or-set_same m.files f ps [] (omega (arith, w.files)))) so
 
-  does : (call : Call) (Says : Answer → Type 0) (Change : List Place → List Place → Type 0)
+  does : (call : Call) (Says : Result Answer Refusal → Type 0) (Change : List Place → List Place → Type 0)
       → (first (reasons c m call buffer) ≡ None → Says (granted c m call buffer).answer × ((granted c m call buffer).buffer ≡ buffer) × Change (file m f) (file (granted c m call buffer).next f)) → Does c m call buffer f Says Change
   does call Says Change done =
       step_both c m call buffer (λ o. answer_number o.answer ≡ 0 → Says o.answer × (o.buffer ≡ buffer) × Change (file m f) (file o.next f))

@@ -1,9 +1,11 @@
 -- What the answers to a reserve mean.
-use Rattle.std.proofs.Common.{◌≡◌, ℕ, ◌+◌, ◌<◌, ◌≤◌, List, [], ◌∷◌, map, length, take, drop, sym, refl, ap, ◌∙◌, subst, arith, length-drop}
+use Rattle.std.proofs.Common.{◌≡◌, ℕ, ◌+◌, ◌<◌, ◌≤◌, List, [], ◌∷◌, map, length, take, drop, Ok, Result, sym, refl, ap, ◌∙◌, subst, arith, length-drop}
 use Rattle.std.proofs.lemmas.List.{drop_at, length-take-le, get_or-set_same}
 use Rattle.std.proofs.lemmas.Bool.{ltb-false, leb-false}
 use Rattle.calls.specs.declared.call.Call.TheVariants.{ReserveWhole, ReserveSplit}
+use Rattle.calls.specs.declared.refusal.Refusal.{Refusal}
 use Rattle.calls.specs.declared.refusal.Refusal.TheVariants.{NoSpace, NoRun}
+use Rattle.calls.specs.declared.answer.Answer.{Answer}
 use Rattle.calls.specs.declared.answer.Answer.TheVariants.{Pieces}
 use Rattle.calls.specs.Answers.{answer_number}
 use Rattle.model.specs.Places.{Place, laid, reserved}
@@ -35,13 +37,13 @@ on_places m f at n bs lt long fits =
     ∙ ap (λ k. map (λ (p : Place). p.block) (take k (laid bs (drop at ps)))) (sym long)
     ∙ laid_blocks bs (drop at ps) (omega (arith, length-drop at ps))
 
-same_pieces : {i j : ℕ} → Pieces i ≡ Pieces j → i ≡ j
+same_pieces : {i j : ℕ} → ◌≡◌ {A = Result Answer Refusal} (Ok (Pieces i)) (Ok (Pieces j)) → i ≡ j
 same_pieces e = cc
 
 module _ (c : Config) (m : Model) (s : Sound c.volume m) (f at n : ℕ) (buffer : List ℕ) where
-  split_granted : (k : ℕ) → (step c m (ReserveSplit f at n) buffer).answer ≡ Pieces k → Fewest m.free n k (laid_on (step c m (ReserveSplit f at n) buffer).next f at n)
+  split_granted : (k : ℕ) → (step c m (ReserveSplit f at n) buffer).answer ≡ Ok (Pieces k) → Fewest m.free n k (laid_on (step c m (ReserveSplit f at n) buffer).next f at n)
   split_granted k =
-      step_both c m (ReserveSplit f at n) buffer (λ o. o.answer ≡ Pieces k → Fewest m.free n k (laid_on o.next f at n))
+      step_both c m (ReserveSplit f at n) buffer (λ o. o.answer ≡ Ok (Pieces k) → Fewest m.free n k (laid_on o.next f at n))
       (λ w e. absurd (omega (arith, refused_some w, ap answer_number e)))
       (λ none e.
       let ok = clear (reasons c m (ReserveSplit f at n) buffer) none in
@@ -54,9 +56,9 @@ module _ (c : Config) (m : Model) (s : Sound c.volume m) (f at n : ℕ) (buffer 
       let places : laid_on (reserve m f at bs) f at n ≡ bs = on_places m f at n bs (omega (arith, real, s.sized)) (split_long (free_runs c m) n fits) inside in
       subst (λ l. Fewest m.free n k l) (sym places) (subst (λ j. Fewest m.free n j bs) kk (split_good m.free c.volume (free_below c m s) n pos fits)))
 
-  whole_granted : (k : ℕ) → (step c m (ReserveWhole f at n) buffer).answer ≡ Pieces k → (k ≡ 1) × Fewest m.free n k (laid_on (step c m (ReserveWhole f at n) buffer).next f at n)
+  whole_granted : (k : ℕ) → (step c m (ReserveWhole f at n) buffer).answer ≡ Ok (Pieces k) → (k ≡ 1) × Fewest m.free n k (laid_on (step c m (ReserveWhole f at n) buffer).next f at n)
   whole_granted k =
-      step_both c m (ReserveWhole f at n) buffer (λ o. o.answer ≡ Pieces k → (k ≡ 1) × Fewest m.free n k (laid_on o.next f at n))
+      step_both c m (ReserveWhole f at n) buffer (λ o. o.answer ≡ Ok (Pieces k) → (k ≡ 1) × Fewest m.free n k (laid_on o.next f at n))
       (λ w e. absurd (omega (arith, refused_some w, ap answer_number e)))
       (λ none e.
       let ok = clear (reasons c m (ReserveWhole f at n) buffer) none in

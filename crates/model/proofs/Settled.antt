@@ -1,21 +1,20 @@
 -- A call is refused for the first reason that holds, or granted where none does.
-use Rattle.std.proofs.Common.{◌≡◌, ℕ, ◌<◌, Bool, true, false, List, [], ◌∷◌, Some, None, Option, refl, ap, subst, arith}
+use Rattle.std.proofs.Common.{◌≡◌, ℕ, ◌<◌, Bool, true, false, List, [], ◌∷◌, Some, None, Err, Option, refl, ap, subst, arith}
 use Rattle.calls.specs.declared.call.Call.{Call}
 use Rattle.calls.specs.declared.call.Call.TheVariants.{Insert, Collapse, Punch, ReserveWhole, ReserveSplit, Write, Read, Find, Length, Tally, Map, Drop}
 use Rattle.calls.specs.declared.refusal.Refusal.{Refusal}
 use Rattle.calls.specs.declared.refusal.Refusal.TheVariants.{OutsideLimits, SmallCard, NoFile, NoCount, OutOfFile, TooLong, WrongBuffer, WrongKind, NoSpace, NoRun, TooManyPieces, NoEntries, Card, NoCatalogueRoom, BadCatalogue, TooManyRecords, WrongRecord}
-use Rattle.calls.specs.declared.answer.Answer.TheVariants.{Refused}
 use Rattle.calls.specs.Answers.{answer_number}
 use Rattle.calls.specs.Refusals.{refusal_number}
 use Rattle.model.specs.Store.{Config, Model}
-use Rattle.model.specs.Rules.{Outcome, Reason, first, or_else, reasons, granted, settled, leaves, step}
+use Rattle.model.specs.Rules.{Outcome, Reason, first, or_else, reasons, granted, settled, refuses, step}
 
-settled_both : (m : Model) (buffer : List ℕ) (o : Option Refusal) (g : Outcome) (P : Outcome → Type 0) → ((w : Refusal) → P (leaves m buffer (Refused w))) → (o ≡ None → P g) → P (settled m buffer o g)
+settled_both : (m : Model) (buffer : List ℕ) (o : Option Refusal) (g : Outcome) (P : Outcome → Type 0) → ((w : Refusal) → P (refuses m buffer w)) → (o ≡ None → P g) → P (settled m buffer o g)
 settled_both m buffer (Some w) g P refused done = refused w
 settled_both m buffer None g P refused done = done refl
 
 -- what holds of a refused call and of a granted one holds of the call
-pub step_both : (c : Config) (m : Model) (call : Call) (buffer : List ℕ) (P : Outcome → Type 0) → ((w : Refusal) → P (leaves m buffer (Refused w))) → (first (reasons c m call buffer) ≡ None → P (granted c m call buffer)) → P (step c m call buffer)
+pub step_both : (c : Config) (m : Model) (call : Call) (buffer : List ℕ) (P : Outcome → Type 0) → ((w : Refusal) → P (refuses m buffer w)) → (first (reasons c m call buffer) ≡ None → P (granted c m call buffer)) → P (step c m call buffer)
 step_both c m call buffer P refused done = settled_both m buffer (first (reasons c m call buffer)) (granted c m call buffer) P refused done
 
 -- what is granted has number 0, and a refusal has not
@@ -52,12 +51,12 @@ refused_some BadCatalogue = omega arith
 refused_some TooManyRecords = omega arith
 refused_some (WrongRecord index) = omega arith
 
-settled_why : (m : Model) (buffer : List ℕ) (o : Option Refusal) (g : Outcome) (w : Refusal) → answer_number g.answer ≡ 0 → (settled m buffer o g).answer ≡ Refused w → o ≡ Some w
+settled_why : (m : Model) (buffer : List ℕ) (o : Option Refusal) (g : Outcome) (w : Refusal) → answer_number g.answer ≡ 0 → (settled m buffer o g).answer ≡ Err w → o ≡ Some w
 settled_why m buffer (Some v) g w zero e = cc
 settled_why m buffer None g w zero e = absurd (omega (arith, refused_some w, ap answer_number e))
 
 -- what a refusal says of the reasons
-pub step_why : (c : Config) (m : Model) (call : Call) (buffer : List ℕ) (w : Refusal) → (step c m call buffer).answer ≡ Refused w → first (reasons c m call buffer) ≡ Some w
+pub step_why : (c : Config) (m : Model) (call : Call) (buffer : List ℕ) (w : Refusal) → (step c m call buffer).answer ≡ Err w → first (reasons c m call buffer) ≡ Some w
 step_why c m call buffer w e = settled_why m buffer (first (reasons c m call buffer)) (granted c m call buffer) w (granted_zero c m call buffer) e
 
 settled_none : (m : Model) (buffer : List ℕ) (o : Option Refusal) (g : Outcome) → answer_number (settled m buffer o g).answer ≡ 0 → o ≡ None

@@ -1,5 +1,5 @@
 -- Refusals are true: what each refusal says of the store, the call and the buffer.
-use Rattle.std.specs.Prelude.{◌≡◌, ℕ, suc, ◌+◌, ◌-◌, ◌<◌, ◌≤◌, true, List, length, Some, None, Option, ◌≢◌}
+use Rattle.std.specs.Prelude.{◌≡◌, ℕ, suc, ◌+◌, ◌-◌, ◌<◌, ◌≤◌, true, List, length, Some, None, Err, Option, ◌≢◌}
 use Rattle.card.specs.Sizes.{block_size}
 use Rattle.card.specs.declared.fault.CardFault.TheVariants.{Worn}
 use Rattle.calls.specs.declared.kind.Kind.TheVariants.{Hole, Reserved}
@@ -7,7 +7,6 @@ use Rattle.calls.specs.declared.call.Call.{Call}
 use Rattle.calls.specs.declared.call.Call.TheVariants.{Insert, Collapse, Punch, ReserveWhole, ReserveSplit, Write, Read, Find, Length, Tally, Map, Drop}
 use Rattle.calls.specs.declared.refusal.Refusal.{Refusal}
 use Rattle.calls.specs.declared.refusal.Refusal.TheVariants.{NoFile, NoCount, OutOfFile, TooLong, WrongBuffer, WrongKind, NoSpace, NoRun, TooManyPieces, NoEntries, Card}
-use Rattle.calls.specs.declared.answer.Answer.TheVariants.{Refused}
 use Rattle.calls.specs.Answers.{answer_number}
 use Rattle.calls.specs.Calls.{concerns}
 use Rattle.calls.specs.Refusals.{refusal_number}
@@ -84,8 +83,8 @@ pub data Ground (c : Config) (m : Model) : Call → List ℕ → Refusal → Typ
 
 -- a refusal has its ground, and no ground has a lower number; a granted call has no ground to refuse it
 pub record Truthful (c : Config) (m : Model) (call : Call) (buffer : List ℕ) : Type 0 where
-  pub refused : (w : Refusal) → (step c m call buffer).answer ≡ Refused w → Ground c m call buffer w
-  pub first : (w v : Refusal) → (step c m call buffer).answer ≡ Refused w → Ground c m call buffer v → refusal_number w ≤ refusal_number v
+  pub refused : (w : Refusal) → (step c m call buffer).answer ≡ Err w → Ground c m call buffer w
+  pub first : (w v : Refusal) → (step c m call buffer).answer ≡ Err w → Ground c m call buffer v → refusal_number w ≤ refusal_number v
   pub granted : answer_number (step c m call buffer).answer ≡ 0 → (w : Refusal) → Ground c m call buffer w → ⊥
 
 -- After any calls, a call is refused for the first ground that holds, and granted where none does.

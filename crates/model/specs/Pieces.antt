@@ -1,8 +1,8 @@
 -- Fewest pieces: which blocks a reserve takes, told by the set of free blocks alone.
-use Rattle.std.specs.Prelude.{◌≡◌, ℕ, zero, suc, ◌+◌, ◌-◌, ◌<◌, ◌≤◌, Bool, true, false, not, List, ◌++◌, map, length, count_by, nat_lt}
+use Rattle.std.specs.Prelude.{◌≡◌, ℕ, zero, suc, ◌+◌, ◌-◌, ◌<◌, ◌≤◌, Bool, true, false, not, List, ◌++◌, map, length, count_by, Ok, Err, nat_lt}
 use Rattle.calls.specs.declared.call.Call.TheVariants.{ReserveWhole, ReserveSplit}
 use Rattle.calls.specs.declared.refusal.Refusal.TheVariants.{NoSpace, NoRun}
-use Rattle.calls.specs.declared.answer.Answer.TheVariants.{Pieces, Refused}
+use Rattle.calls.specs.declared.answer.Answer.TheVariants.{Pieces}
 use Rattle.model.specs.Places.{Place, range}
 use Rattle.model.specs.Space.{Blocks, times, row, without}
 use Rattle.model.specs.Store.{Config, Model, file}
@@ -60,10 +60,10 @@ laid_on m f at n = map (λ (p : Place). p.block) (range (file m f) at n)
 
 -- what the answers to a reserve mean
 pub record Reserves (c : Config) (m : Model) (f at n : ℕ) (buffer : List ℕ) : Type 0 where
-  pub split_granted : (k : ℕ) → (step c m (ReserveSplit f at n) buffer).answer ≡ Pieces k → Fewest m.free n k (laid_on (step c m (ReserveSplit f at n) buffer).next f at n)
-  pub whole_granted : (k : ℕ) → (step c m (ReserveWhole f at n) buffer).answer ≡ Pieces k → (k ≡ 1) × Fewest m.free n k (laid_on (step c m (ReserveWhole f at n) buffer).next f at n)
-  pub no_space : (step c m (ReserveSplit f at n) buffer).answer ≡ Refused NoSpace → (bs : List ℕ) → Choice m.free n bs → ⊥
-  pub no_run : (step c m (ReserveWhole f at n) buffer).answer ≡ Refused NoRun → (b : ℕ) → AllFree m.free b n → ⊥
+  pub split_granted : (k : ℕ) → (step c m (ReserveSplit f at n) buffer).answer ≡ Ok (Pieces k) → Fewest m.free n k (laid_on (step c m (ReserveSplit f at n) buffer).next f at n)
+  pub whole_granted : (k : ℕ) → (step c m (ReserveWhole f at n) buffer).answer ≡ Ok (Pieces k) → (k ≡ 1) × Fewest m.free n k (laid_on (step c m (ReserveWhole f at n) buffer).next f at n)
+  pub no_space : (step c m (ReserveSplit f at n) buffer).answer ≡ Err NoSpace → (bs : List ℕ) → Choice m.free n bs → ⊥
+  pub no_run : (step c m (ReserveWhole f at n) buffer).answer ≡ Err NoRun → (b : ℕ) → AllFree m.free b n → ⊥
 
 -- After any calls, a granted reserve has the fewest pieces that there are, taken as ruled; "no space" and "no run" are true.
 abbrev pub FewestPieces : Type 0

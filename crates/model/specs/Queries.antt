@@ -2,11 +2,11 @@
 use Rattle.std.specs.Prelude.{◌≡◌, ℕ, ◌+◌, ◌-◌, ◌<◌, ◌≤◌, List, ◌++◌, length, drop, sum_by, count_by}
 use Rattle.calls.specs.declared.call.Call.TheVariants.{Find, Length, Tally, Map}
 use Rattle.calls.specs.declared.refusal.Refusal.TheVariants.{OutOfFile}
-use Rattle.calls.specs.declared.answer.Answer.TheVariants.{Found, Places, Tallied, Bytes, Refused}
+use Rattle.calls.specs.declared.answer.Answer.TheVariants.{Found, Places, Tallied, Bytes}
 use Rattle.model.specs.Extents.{Extent, extents, cut, lines}
 use Rattle.model.specs.Space.{row}
 use Rattle.model.specs.Store.{Config, Model, file_count, file, place}
-use Rattle.model.specs.Rules.{Outcome, leaves, step}
+use Rattle.model.specs.Rules.{Outcome, leaves, refuses, step}
 use Rattle.model.specs.Replay.{Request, reached}
 use Rattle.model.specs.Pieces.{LongestRow}
 use Rattle.model.specs.Exact.{mappings, spread, Longest}
@@ -34,7 +34,7 @@ Maps c m f buffer es = length (lines 0 es) ≤ length buffer → step c m (Map f
 -- what each query of file f answers
 pub record Answers (c : Config) (m : Model) (f : ℕ) (buffer : List ℕ) : Type 0 where
   pub find : (at : ℕ) → at < length (file m f) → Finds m f at buffer (step c m (Find f at) buffer)
-  pub nothing_else : (at : ℕ) → length (file m f) ≤ at → step c m (Find f at) buffer ≡ leaves m buffer (Refused OutOfFile)
+  pub nothing_else : (at : ℕ) → length (file m f) ≤ at → step c m (Find f at) buffer ≡ refuses m buffer OutOfFile
   pub long : step c m (Length f) buffer ≡ leaves m buffer (Places (length (file m f)))
   pub tally : Tallies c m buffer (step c m Tally buffer)
   pub map : (es : List Extent) → spread es ≡ mappings (file m f) → Longest es → Maps c m f buffer es

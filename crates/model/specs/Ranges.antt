@@ -1,10 +1,11 @@
 -- What each call that changes a file does to its places, place by place: before the range, inside it and behind it.
 -- Insert, collapse, punch and reserve are the ranges of fallocate(2) with these differences: insert at the length appends, collapse may reach the end,
 -- every range lies in the file, and a reserve wants holes only.
-use Rattle.std.specs.Prelude.{◌≡◌, ℕ, ◌+◌, ◌<◌, ◌≤◌, List, [], length, ◌≢◌, slice_index_or}
+use Rattle.std.specs.Prelude.{◌≡◌, ℕ, ◌+◌, ◌<◌, ◌≤◌, List, [], length, Ok, Result, ◌≢◌, slice_index_or}
 use Rattle.calls.specs.declared.kind.Kind.TheVariants.{Reserved, Written}
 use Rattle.calls.specs.declared.call.Call.{Call}
 use Rattle.calls.specs.declared.call.Call.TheVariants.{Insert, Collapse, Punch, ReserveWhole, ReserveSplit, Write, Drop}
+use Rattle.calls.specs.declared.refusal.Refusal.{Refusal}
 use Rattle.calls.specs.declared.answer.Answer.{Answer}
 use Rattle.calls.specs.declared.answer.Answer.TheVariants.{Done, Pieces}
 use Rattle.calls.specs.Answers.{answer_number}
@@ -61,15 +62,15 @@ abbrev pub Emptied : List Place → List Place → Type 0
 Emptied old new = new ≡ []
 
 -- an answer that says no more than 0
-abbrev pub Plain : Answer → Type 0
-Plain a = a ≡ Done
+abbrev pub Plain : Result Answer Refusal → Type 0
+Plain a = a ≡ Ok Done
 
 -- an answer that says how many pieces there are
-abbrev pub InPieces : Answer → Type 0
-InPieces a = (k : ℕ) × (a ≡ Pieces k)
+abbrev pub InPieces : Result Answer Refusal → Type 0
+InPieces a = (k : ℕ) × (a ≡ Ok (Pieces k))
 
 -- a call on file f, where it is granted, answers so, leaves the buffer, and changes the file so
-abbrev pub Does : Config → Model → Call → List ℕ → ℕ → (Answer → Type 0) → (List Place → List Place → Type 0) → Type 0
+abbrev pub Does : Config → Model → Call → List ℕ → ℕ → (Result Answer Refusal → Type 0) → (List Place → List Place → Type 0) → Type 0
 Does c m call buffer f Says Change =
     answer_number (step c m call buffer).answer ≡ 0 → Says (step c m call buffer).answer × ((step c m call buffer).buffer ≡ buffer) × Change (file m f) (file (step c m call buffer).next f)
 

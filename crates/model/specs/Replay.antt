@@ -1,6 +1,7 @@
 -- Whole runs of calls.
-use Rattle.std.specs.Prelude.{◌≡◌, ℕ, List, [], ◌∷◌, ◌++◌}
+use Rattle.std.specs.Prelude.{◌≡◌, ℕ, List, [], ◌∷◌, ◌++◌, Result}
 use Rattle.calls.specs.declared.call.Call.{Call}
+use Rattle.calls.specs.declared.refusal.Refusal.{Refusal}
 use Rattle.calls.specs.declared.answer.Answer.{Answer}
 use Rattle.model.specs.Store.{Config, Model, fresh}
 use Rattle.model.specs.Rules.{Outcome, step}
@@ -10,9 +11,9 @@ pub record Request : Type 0 where
   pub call : Call
   pub buffer : List ℕ
 
--- what comes back of it: the answer, and the buffer after the call
+-- what comes back of it: the answer or the refusal, and the buffer after the call
 pub record Reply : Type 0 where
-  pub answer : Answer
+  pub answer : Result Answer Refusal
   pub buffer : List ℕ
 
 -- what a list of requests leaves, and the reply to each

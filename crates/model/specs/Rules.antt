@@ -7,21 +7,25 @@ use Rattle.calls.specs.declared.call.Call.TheVariants.{Insert, Collapse, Punch, 
 use Rattle.calls.specs.declared.refusal.Refusal.{Refusal}
 use Rattle.calls.specs.declared.refusal.Refusal.TheVariants.{OutsideLimits, SmallCard, NoFile, NoCount, OutOfFile, TooLong, WrongBuffer, WrongKind, NoSpace, NoRun, TooManyPieces, NoEntries, Card}
 use Rattle.calls.specs.declared.answer.Answer.{Answer}
-use Rattle.calls.specs.declared.answer.Answer.TheVariants.{Done, Pieces, Found, Places, Tallied, Bytes, Refused}
+use Rattle.calls.specs.declared.answer.Answer.TheVariants.{Done, Pieces, Found, Places, Tallied, Bytes}
 use Rattle.model.specs.Places.{is_hole, is_reserved, all_holes, range}
 use Rattle.model.specs.Extents.{extents, cut, leading_count, map_text}
 use Rattle.model.specs.Space.{total, most, whole, split, blocks_of, most_pieces}
 use Rattle.model.specs.Store.{Config, Model, file_count, most_places, fresh, file, place, spare, both_cuts, free_runs, insert, collapse, punch, reserve, write, empty}
 
--- what a call leaves: the store, the answer, and the caller's buffer
+-- what a call leaves: the store, the answer or the refusal, and the caller's buffer
 pub record Outcome : Type 0 where
   pub next : Model
-  pub answer : Answer
+  pub answer : Result Answer Refusal
   pub buffer : List ℕ
 
--- the outcome of a call that leaves this
+-- the outcome of a granted call that leaves this and answers so
 abbrev pub leaves : Model → List ℕ → Answer → Outcome
-leaves m buffer a = record { next = m; answer = a; buffer = buffer }
+leaves m buffer a = record { next = m; answer = Ok a; buffer = buffer }
+
+-- the outcome of a call refused for this
+abbrev pub refuses : Model → List ℕ → Refusal → Outcome
+refuses m buffer w = record { next = m; answer = Err w; buffer = buffer }
 
 -- a reason to refuse, and whether it holds
 pub record Reason : Type 0 where
@@ -190,7 +194,7 @@ first (r ∷ rs) = or_else r.holds r.refusal (first rs)
 
 -- refused, or granted
 abbrev pub settled : Model → List ℕ → Option Refusal → Outcome → Outcome
-settled m buffer (Some w) o = leaves m buffer (Refused w)
+settled m buffer (Some w) o = refuses m buffer w
 settled m buffer None o = o
 
 -- a call: refused for the first reason that holds, and then store and buffer are as they were; else granted
