@@ -1,5 +1,5 @@
 -- Extents and runs are the only lists with their properties.
-use Rattle.std.specs.Prelude.{◌≡◌, ℕ, zero, suc, ◌+◌, ◌<◌, ◌≤◌, cond, List, [], ◌∷◌, ◌++◌, map, length, take, drop, ◌≢◌, slice_index_or}
+use Rattle.std.specs.Prelude.{◌≡◌, ℕ, zero, suc, ◌+◌, ◌<◌, ◌≤◌, List, [], ◌∷◌, ◌++◌, map, length, take, drop, ◌≢◌, slice_index_or, if◌then◌else◌}
 use Rattle.calls.specs.declared.kind.Kind.{Kind}
 use Rattle.model.specs.Places.{Place, hole, is_hole}
 use Rattle.model.specs.Extents.{Extent, extents, cut}
@@ -18,7 +18,7 @@ mappings ps = map (λ (p : Place). record { kind = p.kind; block = p.block }) ps
 
 -- the block behind block b in an extent; holes have block 0 throughout
 abbrev pub next : Kind → ℕ → ℕ
-next k b = cond (is_hole k) b (suc b)
+next k b = if is_hole k then b else suc b
 
 -- n places of kind k, the first on block b
 abbrev pub stretch : Kind → ℕ → ℕ → List Mapping

@@ -1,5 +1,5 @@
 -- The extents of a file: its longest stretches of places that belong together.
-use Rattle.std.specs.Prelude.{ℕ, zero, suc, ◌+◌, Bool, cond, ◌&&◌, ◌||◌, List, [], ◌∷◌, ◌++◌, length, decimal, ◌==◌, nat_lt, slice_index_or}
+use Rattle.std.specs.Prelude.{ℕ, zero, suc, ◌+◌, Bool, ◌&&◌, ◌||◌, List, [], ◌∷◌, ◌++◌, length, decimal, ◌==◌, nat_lt, slice_index_or, if◌then◌else◌}
 use Rattle.calls.specs.declared.kind.Kind.{Kind}
 use Rattle.calls.specs.Kinds.{kind_letter, kind_number}
 use Rattle.model.specs.Places.{Place, hole, is_hole}
@@ -21,7 +21,9 @@ goes_on k a j b = same_kind k j && (is_hole k || suc a == b)
 -- a place of kind k on block b, put before the extents of the places behind it
 abbrev pub before : Kind → ℕ → List Extent → List Extent
 before k b [] = record { kind = k; count = 1; block = b } ∷ []
-before k b (e ∷ es) = cond (goes_on k b e.kind e.block) (record { kind = k; count = suc e.count; block = b } ∷ es) (record { kind = k; count = 1; block = b } ∷ e ∷ es)
+before k b (e ∷ es) =
+    if goes_on k b e.kind e.block then record { kind = k; count = suc e.count; block = b } ∷ es
+    else record { kind = k; count = 1; block = b } ∷ e ∷ es
 
 -- the extents of a list of places, in order
 abbrev pub extents : List Place → List Extent
@@ -34,7 +36,7 @@ cut ps zero = 0
 cut ps (suc i) =
     let p = slice_index_or ps i hole in
     let q = slice_index_or ps (suc i) hole in
-    cond (nat_lt (suc i) (length ps) && goes_on p.kind p.block q.kind q.block) 1 0
+    if nat_lt (suc i) (length ps) && goes_on p.kind p.block q.kind q.block then 1 else 0
 
 -- how many places the first extent has
 abbrev pub leading_count : List Extent → ℕ

@@ -1,5 +1,5 @@
 -- Contents by history: what files hold, told by the calls and their answers alone. Each place is followed backward through the calls that were granted.
-use Rattle.std.specs.Prelude.{◌≡◌, ℕ, ◌+◌, ◌-◌, ◌<◌, cond, ◌&&◌, List, [], ◌∷◌, length, ◌==◌, nat_le, nat_lt}
+use Rattle.std.specs.Prelude.{◌≡◌, ℕ, ◌+◌, ◌-◌, ◌<◌, ◌&&◌, List, [], ◌∷◌, length, ◌==◌, nat_le, nat_lt, if◌then◌else◌}
 use Rattle.card.specs.Sizes.{block_size}
 use Rattle.calls.specs.declared.call.Call.{Call}
 use Rattle.calls.specs.declared.call.Call.TheVariants.{Insert, Collapse, Punch, ReserveWhole, ReserveSplit, Write, Read, Find, Length, Tally, Map, Drop}
@@ -15,7 +15,7 @@ use Rattle.model.specs.Replay.{Request, Reply, reached, answered}
 abbrev pub granted_first : List Request → List Reply → List Request → List Request
 granted_first [] rs past = past
 granted_first (q ∷ qs) [] past = past
-granted_first (q ∷ qs) (r ∷ rs) past = granted_first qs rs (cond (answer_number r.answer == 0) (q ∷ past) past)
+granted_first (q ∷ qs) (r ∷ rs) past = granted_first qs rs (if answer_number r.answer == 0 then q ∷ past else past)
 
 -- the history of a volume
 abbrev pub history : Config → List Request → List Request
@@ -28,12 +28,12 @@ pub data Origin : Type 0 where
 
 -- where the bytes of place k come from, in the file that a granted call is on
 abbrev pub origin : Call → List ℕ → ℕ → Origin
-origin (Insert f at n) buffer k = cond (nat_lt k at) (was k) (cond (nat_lt k (at + n)) (put zeros) (was (k - n)))
-origin (Collapse f at n) buffer k = cond (nat_lt k at) (was k) (was (k + n))
-origin (Punch f at n) buffer k = cond (nat_le at k && nat_lt k (at + n)) (put zeros) (was k)
+origin (Insert f at n) buffer k = if nat_lt k at then was k else (if nat_lt k (at + n) then put zeros else was (k - n))
+origin (Collapse f at n) buffer k = if nat_lt k at then was k else was (k + n)
+origin (Punch f at n) buffer k = if nat_le at k && nat_lt k (at + n) then put zeros else was k
 origin (ReserveWhole f at n) buffer k = was k
 origin (ReserveSplit f at n) buffer k = was k
-origin (Write f at) buffer k = cond (k == at) (put buffer) (was k)
+origin (Write f at) buffer k = if k == at then put buffer else was k
 origin (Read f at) buffer k = was k
 origin (Find f at) buffer k = was k
 origin (Length f) buffer k = was k
@@ -49,7 +49,7 @@ traced earlier (was k) = earlier k
 -- the bytes of place k of file f
 abbrev pub bytes_of : List Request → ℕ → ℕ → List ℕ
 bytes_of [] f k = zeros
-bytes_of (q ∷ past) f k = traced (bytes_of past f) (cond (concerns q.call f) (origin q.call q.buffer k) (was k))
+bytes_of (q ∷ past) f k = traced (bytes_of past f) (if concerns q.call f then origin q.call q.buffer k else was k)
 
 -- the length of a file after a granted call on it
 abbrev pub resized : Call → ℕ → ℕ
@@ -69,7 +69,7 @@ resized (Drop f) l = 0
 -- the length of file f
 abbrev pub length_of : List Request → ℕ → ℕ
 length_of [] f = 0
-length_of (q ∷ past) f = cond (concerns q.call f) (resized q.call (length_of past f)) (length_of past f)
+length_of (q ∷ past) f = if concerns q.call f then resized q.call (length_of past f) else length_of past f
 
 -- length and read tell of file f what its history says
 pub record Told (c : Config) (m : Model) (past : List Request) (f : ℕ) (buffer : List ℕ) : Type 0 where

@@ -1,12 +1,12 @@
 -- One owner: every block of the volume is free, or in one place of one file.
-use Rattle.std.specs.Prelude.{◌≡◌, ℕ, ◌+◌, Bool, cond, List, sum_by, nat_lt}
+use Rattle.std.specs.Prelude.{◌≡◌, ℕ, ◌+◌, Bool, List, sum_by, nat_lt, if◌then◌else◌}
 use Rattle.model.specs.Places.{held}
 use Rattle.model.specs.Store.{Config, Model}
 use Rattle.model.specs.Replay.{Request, reached}
 
 -- 1 for true, 0 for false
 abbrev pub one_if : Bool → ℕ
-one_if b = cond b 1 0
+one_if b = if b then 1 else 0
 
 -- how many places of all files are on block b
 abbrev pub owners : Model → ℕ → ℕ

@@ -1,5 +1,5 @@
 -- The rule of each call: why it is refused, and what it does where it is granted.
-use Rattle.std.specs.Prelude.{ℕ, suc, ◌+◌, ◌-◌, Bool, true, false, cond, not, ◌||◌, List, [], ◌∷◌, ◌++◌, length, drop, Some, None, Ok, Err, Option, Result, ◌==◌, nat_le, nat_lt}
+use Rattle.std.specs.Prelude.{ℕ, suc, ◌+◌, ◌-◌, Bool, true, false, not, ◌||◌, List, [], ◌∷◌, ◌++◌, length, drop, Some, None, Ok, Err, Option, Result, ◌==◌, nat_le, nat_lt, if◌then◌else◌}
 use Rattle.card.specs.Sizes.{block_size, most_blocks}
 use Rattle.card.specs.declared.fault.CardFault.TheVariants.{Worn}
 use Rattle.calls.specs.declared.call.Call.{Call}
@@ -33,8 +33,8 @@ pub record Reason : Type 0 where
   pub refusal : Refusal
 
 -- a reason by its test
-abbrev pub if : Bool → Refusal → Reason
-if b w = record { holds = b; refusal = w }
+abbrev pub when : Bool → Refusal → Reason
+when b w = record { holds = b; refusal = w }
 
 -- the rule of a call: the reasons to refuse it, in the order in which they are looked at, and what it leaves where none of them holds
 pub record Rule : Type 0 where
@@ -43,37 +43,37 @@ pub record Rule : Type 0 where
 
 -- there is no file f
 abbrev pub no_file : ℕ → Reason
-no_file f = if (nat_le file_count f) NoFile
+no_file f = when (nat_le file_count f) NoFile
 
 -- nothing is asked for
 abbrev pub no_count : ℕ → Reason
-no_count n = if (n == 0) NoCount
+no_count n = when (n == 0) NoCount
 
 -- the range ends past the end of the file
 abbrev pub past_end : Model → ℕ → ℕ → ℕ → Reason
-past_end m f at n = if (nat_lt (length (file m f)) (at + n)) OutOfFile
+past_end m f at n = when (nat_lt (length (file m f)) (at + n)) OutOfFile
 
 -- the file has no place at
 abbrev pub no_place : Model → ℕ → ℕ → Reason
-no_place m f at = if (nat_le (length (file m f)) at) OutOfFile
+no_place m f at = when (nat_le (length (file m f)) at) OutOfFile
 
 -- the buffer is not as long as a block
 abbrev pub no_block : List ℕ → Reason
-no_block buffer = if (not (length buffer == block_size)) WrongBuffer
+no_block buffer = when (not (length buffer == block_size)) WrongBuffer
 
 -- the range has a place that is no hole
 abbrev pub not_holes : Model → ℕ → ℕ → ℕ → Reason
-not_holes m f at n = if (not (all_holes (range (file m f) at n))) WrongKind
+not_holes m f at n = when (not (all_holes (range (file m f) at n))) WrongKind
 
 -- fewer entries are spare than a call needs
 abbrev pub no_entries : Config → Model → ℕ → Reason
-no_entries c m needed = if (nat_lt (spare c m) needed) NoEntries
+no_entries c m needed = when (nat_lt (spare c m) needed) NoEntries
 
 -- n holes before place at; at the length they are appended
 abbrev pub insert_rule : Config → Model → ℕ → ℕ → ℕ → List ℕ → Rule
 insert_rule c m f at n buffer = record {
   reasons =
-      no_file f ∷ no_count n ∷ if (nat_lt (length (file m f)) at) OutOfFile ∷ if (nat_lt most_places (length (file m f) + n)) TooLong
+      no_file f ∷ no_count n ∷ when (nat_lt (length (file m f)) at) OutOfFile ∷ when (nat_lt most_places (length (file m f) + n)) TooLong
       ∷ no_entries c m (cut (file m f) at + 1) ∷ [];
   granted = leaves (insert m f at n) buffer Done;
 }
@@ -97,7 +97,7 @@ abbrev pub whole_rule : Config → Model → ℕ → ℕ → ℕ → List ℕ �
 whole_rule c m f at n buffer =
     let rs = free_runs c m in
     record {
-      reasons = no_file f ∷ no_count n ∷ past_end m f at n ∷ not_holes m f at n ∷ if (nat_lt (most rs) n) NoRun ∷ no_entries c m (both_cuts m f at n) ∷ [];
+      reasons = no_file f ∷ no_count n ∷ past_end m f at n ∷ not_holes m f at n ∷ when (nat_lt (most rs) n) NoRun ∷ no_entries c m (both_cuts m f at n) ∷ [];
       granted = leaves (reserve m f at (blocks_of (whole n rs))) buffer (Pieces 1);
     }
 
@@ -108,7 +108,7 @@ split_rule c m f at n buffer =
     let k = length (split n rs) in
     record {
       reasons =
-          no_file f ∷ no_count n ∷ past_end m f at n ∷ not_holes m f at n ∷ if (nat_lt (total rs) n) NoSpace ∷ if (nat_lt most_pieces k) TooManyPieces
+          no_file f ∷ no_count n ∷ past_end m f at n ∷ not_holes m f at n ∷ when (nat_lt (total rs) n) NoSpace ∷ when (nat_lt most_pieces k) TooManyPieces
           ∷ no_entries c m (both_cuts m f at n + k - 1) ∷ [];
       granted = leaves (reserve m f at (blocks_of (split n rs))) buffer (Pieces k);
     }
@@ -119,8 +119,8 @@ write_rule c m f at buffer =
     let p = place m f at in
     record {
       reasons =
-          no_file f ∷ no_place m f at ∷ no_block buffer ∷ if (is_hole p.kind) WrongKind ∷ no_entries c m (cond (is_reserved p.kind) (both_cuts m f at 1) 0)
-          ∷ if (c.worn p.block) (Card Worn p.block) ∷ [];
+          no_file f ∷ no_place m f at ∷ no_block buffer ∷ when (is_hole p.kind) WrongKind ∷ no_entries c m (if is_reserved p.kind then both_cuts m f at 1 else 0)
+          ∷ when (c.worn p.block) (Card Worn p.block) ∷ [];
       granted = leaves (write m f at buffer) buffer Done;
     }
 
@@ -151,7 +151,7 @@ abbrev pub map_rule : Model → ℕ → List ℕ → Rule
 map_rule m f buffer =
     let text = map_text (file m f) in
     record {
-      reasons = no_file f ∷ if (nat_lt (length buffer) (length text)) WrongBuffer ∷ [];
+      reasons = no_file f ∷ when (nat_lt (length buffer) (length text)) WrongBuffer ∷ [];
       granted = leaves m (text ++ drop (length text) buffer) (Bytes (length text));
     }
 
@@ -216,7 +216,7 @@ most_run_entries = 40000
 -- why a volume of v blocks, with tables of so many entries, is refused on a card of n blocks
 abbrev pub build_reasons : ℕ → ℕ → ℕ → ℕ → List Reason
 build_reasons v extent_entries run_entries n =
-    if (outside 1 most_blocks v || (outside 1 most_extent_entries extent_entries || outside (suc extent_entries) most_run_entries run_entries)) OutsideLimits ∷ if (nat_lt n v) SmallCard ∷ []
+    when (outside 1 most_blocks v || (outside 1 most_extent_entries extent_entries || outside (suc extent_entries) most_run_entries run_entries)) OutsideLimits ∷ when (nat_lt n v) SmallCard ∷ []
 
 -- the new volume, or the refusal
 abbrev pub built : ℕ → Option Refusal → Result Model Refusal

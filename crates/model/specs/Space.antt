@@ -1,5 +1,5 @@
 -- The free blocks of a volume, their runs, and which of them a reserve takes.
-use Rattle.std.specs.Prelude.{ℕ, zero, suc, ◌+◌, ◌-◌, max, Bool, true, false, cond, ◌&&◌, List, [], ◌∷◌, ◌++◌, length, count_by, ◌==◌, nat_le, nat_lt}
+use Rattle.std.specs.Prelude.{ℕ, zero, suc, ◌+◌, ◌-◌, max, Bool, true, false, ◌&&◌, List, [], ◌∷◌, ◌++◌, length, count_by, ◌==◌, nat_le, nat_lt, if◌then◌else◌}
 
 -- a set of blocks
 abbrev pub Blocks : Type 0
@@ -27,7 +27,9 @@ pub record Run : Type 0 where
 abbrev pub run_before : Bool → ℕ → List Run → List Run
 run_before false b rs = rs
 run_before true b [] = record { start = b; count = 1 } ∷ []
-run_before true b (r ∷ rs) = cond (suc b == r.start) (record { start = b; count = suc r.count } ∷ rs) (record { start = b; count = 1 } ∷ r ∷ rs)
+run_before true b (r ∷ rs) =
+    if suc b == r.start then record { start = b; count = suc r.count } ∷ rs
+    else record { start = b; count = 1 } ∷ r ∷ rs
 
 -- the longest rows of free blocks among n blocks from block b on, rising
 abbrev pub runs_from : Blocks → ℕ → ℕ → List Run
@@ -51,17 +53,17 @@ most (r ∷ rs) = max r.count (most rs)
 -- the longest run, the lowest of equals; no block where there is none
 abbrev pub longest : List Run → Run
 longest [] = record { start = 0; count = 0 }
-longest (r ∷ rs) = cond (nat_lt r.count (most rs)) (longest rs) r
+longest (r ∷ rs) = if nat_lt r.count (most rs) then longest rs else r
 
 -- the runs but for that one
 abbrev pub others : List Run → List Run
 others [] = []
-others (r ∷ rs) = cond (nat_lt r.count (most rs)) (r ∷ others rs) rs
+others (r ∷ rs) = if nat_lt r.count (most rs) then r ∷ others rs else rs
 
 -- the first n blocks of the lowest run of at least n; no block where there is none
 abbrev pub lowest_fit : ℕ → List Run → Run
 lowest_fit n [] = record { start = 0; count = 0 }
-lowest_fit n (r ∷ rs) = cond (nat_le n r.count) (record { start = r.start; count = n }) (lowest_fit n rs)
+lowest_fit n (r ∷ rs) = if nat_le n r.count then record { start = r.start; count = n } else lowest_fit n rs
 
 -- whole: one piece
 abbrev pub whole : ℕ → List Run → List Run
@@ -70,7 +72,7 @@ whole n rs = lowest_fit n rs ∷ []
 -- split: one piece where a run of at least n exists, else the whole of the longest run, and on with the rest of n. No more than k pieces
 abbrev pub split_up_to : ℕ → ℕ → List Run → List Run
 split_up_to zero n rs = []
-split_up_to (suc k) n rs = cond (nat_le n (most rs)) (whole n rs) (longest rs ∷ split_up_to k (n - most rs) (others rs))
+split_up_to (suc k) n rs = if nat_le n (most rs) then whole n rs else longest rs ∷ split_up_to k (n - most rs) (others rs)
 
 -- the pieces of a split, in the order taken: never more than there are runs
 abbrev pub split : ℕ → List Run → List Run
