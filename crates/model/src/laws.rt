@@ -12,11 +12,13 @@ ghost use Rattle.model.specs.Ranges.{RangeCalls};
 ghost use Rattle.model.specs.Replay.{OneByOne};
 
 // One more call is answered by the store that the calls before it left.
+#[tactic(auto, using(crate::proofs::Running::one_by_one))]
 pub fn one_by_one()
     ensures { OneByOne }
 {}
 
 // Every block of the volume is free, or in one place of one file.
+#[tactic(auto, using(crate::proofs::Owners::one_owner))]
 pub fn one_owner()
     ensures { OneOwner }
 {}
@@ -32,11 +34,13 @@ pub fn contents()
 {}
 
 // A refused call changes neither the store nor the buffer.
+#[tactic(auto, using(crate::proofs::Leaving::refusals_leave))]
 pub fn refusals_leave()
     ensures { RefusalsLeave }
 {}
 
 // A call changes no file but the one that it is on.
+#[tactic(auto, using(crate::proofs::Leaving::others_stay))]
 pub fn others_stay()
     ensures { OthersStay }
 {}
@@ -57,26 +61,31 @@ pub fn queries_right()
 {}
 
 // The extents of a file are the only longest stretches that stand for its places.
+#[tactic(auto, using(crate::proofs::ExactExtents::extents_exact))]
 pub fn extents_exact()
     ensures { ExtentsExact }
 {}
 
 // The free runs are the only longest rows that have just the free blocks.
+#[tactic(auto, using(crate::proofs::ExactRuns::runs_exact))]
 pub fn runs_exact()
     ensures { RunsExact }
 {}
 
 // Files, places and extents keep within their limits.
+#[tactic(auto, using(crate::proofs::Limits::limits_kept))]
 pub fn limits_kept()
     ensures { LimitsKept }
 {}
 
 // The free runs are at most one more than the extents that own blocks.
+#[tactic(auto, using(crate::proofs::Few::few_runs))]
 pub fn few_runs()
     ensures { FewRuns }
 {}
 
 // A volume is built just where its sizes and its card allow it.
+#[tactic(auto, using(crate::proofs::Building::builds))]
 pub fn builds()
     ensures { Builds }
 {}
