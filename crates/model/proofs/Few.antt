@@ -1,5 +1,6 @@
 -- The free runs are at most one more than the extents that own blocks.
 use Rattle.std.proofs.Common.{◌≡◌, ℕ, zero, suc, ◌+◌, ◌<◌, ◌≤◌, Bool, true, false, cond, not, ◌&&◌, ◌||◌, eqb, ltb, List, [], ◌∷◌, length, sum_by, count_by, sym, refl, ap, ◌∙◌, ap₂, ⊎_elim, arith}
+use Rattle.std.proofs.Math.Bool.{and-false}
 use Rattle.std.proofs.lemmas.List.Sums.{sum_by-cons}
 use Rattle.std.proofs.lemmas.Bool.{eqb-true, eqb-false, eq-eqb, ne_eqb, lt-ltb, and_parts, or_cases, not-true, false≢true, cond_both, cond-false, cases_eq, cases_Bool}
 use Rattle.calls.specs.declared.kind.Kind.{Kind}
@@ -39,17 +40,13 @@ before_joins s (starts {r = r} {rs = rs} at le) =
     cond_both (eqb (suc s) r.start) (record { start = s; count = suc r.count } ∷ rs) (record { start = s; count = 1 } ∷ r ∷ rs) (λ x. length x ≡ length (r ∷ rs))
     (λ _. refl) (λ e. absurd (eqb-false (suc s) r.start e (sym at)))
 
-and_none : (x : Bool) → one_if (x && false) ≡ 0
-and_none true = refl
-and_none false = refl
-
 one_way : (p : Bool) → one_if (not p) + one_if p ≡ 1
 one_way true = refl
 one_way false = refl
 
 -- one block more in front
 runs_more : (free : Blocks) (s n : ℕ) (x y : Bool) → free s ≡ x → free (suc s) ≡ y → length (runs_from free (suc s) n) ≤ tally (opens free) (suc s) n + one_if (free (suc s) && free s) → length (run_before x s (runs_from free (suc s) n)) ≤ tally (opens free) (suc s) n + one_if x
-runs_more free s n false y xe ye ih = omega (arith, ap (λ z. one_if (free (suc s) && z)) xe ∙ and_none (free (suc s)))
+runs_more free s n false y xe ye ih = omega (arith, ap (λ z. one_if (free (suc s) && z)) xe ∙ ap one_if (and-false (free (suc s))))
 runs_more free s n true false xe ye ih = omega (arith, before_at_most s (runs_from free (suc s) n), ap (λ z. one_if (z && free s)) ye)
 runs_more free s zero true true xe ye ih = omega arith
 runs_more free s (suc n) true true xe ye ih =
@@ -188,7 +185,7 @@ few c m s = go c.volume s
         let b = opens_le m.free (owners m) v 0 v (omega arith) (λ x lt. omega (arith, s.owned x, ap one_if (lt-ltb x (suc v) (omega arith)))) in
         let d = files_le m.free v m.files (λ x lt. is_shut (m.free x) (owners m x) (one_if (ltb x (suc v))) (s.owned x) (one_if_le (ltb x (suc v))) lt) in
         let first = one_if_le (m.free 0 && not (pre m.free 0)) in
-        let none : follows m.free 0 ≡ 0 = and_none (m.free 0) in
+        let none : follows m.free 0 ≡ 0 = ap one_if (and-false (m.free 0)) in
         omega (arith, a, b, d, first, none)
 
 pub few_runs : FewRuns

@@ -1,8 +1,8 @@
 -- Limits: what every run keeps within.
-use Rattle.std.proofs.Common.{◌≡◌, ℕ, zero, suc, ◌+◌, ◌-◌, ◌<◌, ◌≤◌, Bool, true, false, cond, ◌&&◌, ltb, leb, List, [], ◌∷◌, length, get_or, take, drop, set, replicate, None, sym, refl, ap, ◌∙◌, subst, ⊎_elim, arith, length-set}
+use Rattle.std.proofs.Common.{◌≡◌, ℕ, zero, suc, ◌+◌, ◌-◌, ◌<◌, ◌≤◌, true, false, cond, ◌&&◌, ltb, leb, List, [], ◌∷◌, length, get_or, take, drop, set, replicate, None, sym, refl, ap, ◌∙◌, subst, ⊎_elim, arith, length-set}
 use Rattle.std.proofs.lemmas.List.Sums.{sum_by-set}
 use Rattle.std.proofs.lemmas.List.{get_or-set_same, get_or-set_other, get_or-drop}
-use Rattle.std.proofs.lemmas.Bool.{ltb-false, leb-false, eqb-true, and_parts, not-false, false≢true, cases_eq, cases_lt}
+use Rattle.std.proofs.lemmas.Bool.{ltb-false, leb-false, eqb-true, and_parts, not-false, false≢true, cond_both, cases_eq, cases_lt}
 use Rattle.calls.specs.declared.kind.Kind.{Kind}
 use Rattle.calls.specs.declared.kind.Kind.TheVariants.{Hole, Reserved, Written}
 use Rattle.calls.specs.declared.call.Call.{Call}
@@ -24,10 +24,6 @@ use Rattle.model.proofs.Entries.{ext, inserted_ext, collapsed_ext, punched_ext, 
 
 hole_tidy : Tidy hole
 hole_tidy = (refl, refl)
-
-cond_tidy : (b : Bool) (x y : Place) → Tidy x → Tidy y → Tidy (cond b x y)
-cond_tidy true x y a c = a
-cond_tidy false x y a c = c
 
 -- blocks laid on holes
 laid_one : (p : Place) (b : ℕ) (k : Kind) → p.kind ≡ k → is_hole k ≡ true → TidyAs k p → p.bytes ≡ zeros
@@ -66,17 +62,17 @@ module _ {c : Config} {m : Model} (w : Within c m) (f : ℕ) (lt : f < file_coun
   insert_within : (at n : ℕ) → at ≤ length (file m f) → length (file m f) + n ≤ most_places → ltb (spare c m) (cut (file m f) at + 1) ≡ false → Within c (insert m f at n)
   insert_within at n le short e =
       changed (inserted (file m f) at n) m.free (omega (arith, length_inserted (file m f) at n le)) (omega (arith, inserted_ext (file m f) at n, room _ e))
-      (λ k. subst Tidy (sym (inserted_at (file m f) at n k le)) (cond_tidy (ltb k at) _ _ (w.tidy f k) (cond_tidy (ltb k (at + n)) _ _ hole_tidy (w.tidy f (k - n)))))
+      (λ k. subst Tidy (sym (inserted_at (file m f) at n k le)) (cond_both (ltb k at) _ _ Tidy (λ _. w.tidy f k) (λ _. cond_both (ltb k (at + n)) _ _ Tidy (λ _. hole_tidy) (λ _. w.tidy f (k - n)))))
 
   collapse_within : (at n : ℕ) → 0 < n → at + n ≤ length (file m f) → ltb (spare c m) (both_cuts m f at n) ≡ false → Within c (collapse m f at n)
   collapse_within at n pos le e =
       changed (collapsed (file m f) at n) (collapse m f at n).free (omega (arith, length_collapsed (file m f) at n le, w.places f)) (omega (arith, collapsed_ext (file m f) at n pos, room _ e))
-      (λ k. subst Tidy (sym (collapsed_at (file m f) at n k le)) (cond_tidy (ltb k at) _ _ (w.tidy f k) (w.tidy f (k + n))))
+      (λ k. subst Tidy (sym (collapsed_at (file m f) at n k le)) (cond_both (ltb k at) _ _ Tidy (λ _. w.tidy f k) (λ _. w.tidy f (k + n))))
 
   punch_within : (at n : ℕ) → 0 < n → at + n ≤ length (file m f) → ltb (spare c m) (both_cuts m f at n) ≡ false → Within c (punch m f at n)
   punch_within at n pos le e =
       changed (punched (file m f) at n) (punch m f at n).free (omega (arith, length_punched (file m f) at n le, w.places f)) (omega (arith, punched_ext (file m f) at n pos le, room _ e))
-      (λ k. subst Tidy (sym (punched_at (file m f) at n k le)) (cond_tidy (leb at k && ltb k (at + n)) _ _ hole_tidy (w.tidy f k)))
+      (λ k. subst Tidy (sym (punched_at (file m f) at n k le)) (cond_both (leb at k && ltb k (at + n)) _ _ Tidy (λ _. hole_tidy) (λ _. w.tidy f k)))
 
   reserve_within : (at n : ℕ) (qs : List Run) → 0 < n → at + n ≤ length (file m f) → total qs ≡ n → length (blocks_of qs) ≡ n → all_holes (range (file m f) at n) ≡ true → 0 < length qs → ltb (spare c m) (both_cuts m f at n + length qs - 1) ≡ false → Within c (reserve m f at (blocks_of qs))
   reserve_within at n qs pos le all long holes some e =

@@ -1,5 +1,6 @@
 -- One owner: each block is free, or in one place of one file.
-use Rattle.std.proofs.Common.{◌≡◌, ℕ, zero, suc, ◌+◌, ◌<◌, ◌≤◌, Bool, true, false, cond, not, ◌&&◌, ◌||◌, eqb, ltb, List, [], ◌∷◌, ◌++◌, length, take, drop, set, replicate, None, sum_by, refl, ap, ◌∙◌, arith, length-drop, length-set}
+use Rattle.std.proofs.Common.{◌≡◌, ℕ, zero, suc, ◌+◌, ◌<◌, ◌≤◌, Bool, true, false, cond, not, ◌&&◌, ◌||◌, eqb, ltb, List, [], ◌∷◌, ◌++◌, length, take, drop, set, replicate, None, refl, ap, ◌∙◌, arith, length-drop, length-set}
+use Rattle.std.proofs.lemmas.List.Folds.{sum_by-replicate}
 use Rattle.std.proofs.lemmas.List.Sums.{sum_by-cons, sum_by-append, sum_by-set, sum_by-take-drop, get_or-le-sum_by}
 use Rattle.std.proofs.lemmas.Bool.{le-ltb, ltb-false, leb-false, and_parts, not-false}
 use Rattle.calls.specs.declared.kind.Kind.{Kind}
@@ -162,12 +163,8 @@ pub run_sound : (c : Config) (m : Model) → Sound c.volume m → (qs : List Req
 run_sound c m s [] = s
 run_sound c m s (q ∷ qs) = run_sound c (step c m q.call q.buffer).next (step_sound c m s q.call q.buffer) qs
 
-fresh_owners : (n b : ℕ) → sum_by (λ ps. held ps b) (replicate n []) ≡ 0
-fresh_owners zero b = refl
-fresh_owners (suc n) b = sum_by-cons (λ ps. held ps b) [] (replicate n []) ∙ omega (arith, fresh_owners n b)
-
 pub fresh_sound : (v : ℕ) → Sound v (fresh v)
-fresh_sound v = record { sized = refl; owned = λ b. omega (arith, fresh_owners file_count b) }
+fresh_sound v = record { sized = refl; owned = λ b. omega (arith, sum_by-replicate (λ ps. held ps b) file_count []) }
 
 pub reached_sound : (c : Config) (qs : List Request) → Sound c.volume (reached c qs)
 reached_sound c qs = run_sound c (fresh c.volume) (fresh_sound c.volume) qs

@@ -1,6 +1,6 @@
 -- A call is refused for the first ground that holds, and granted where none does.
 use Rattle.std.proofs.Common.{◌≡◌, ℕ, zero, suc, ◌+◌, ◌-◌, ◌<◌, ◌≤◌, Bool, true, false, cond, not, ◌&&◌, eqb, ltb, leb, ◌⊎◌, List, [], ◌∷◌, length, get_or, take, Some, None, Option, sym, refl, ap, ◌∙◌, subst, inl, inr, ⊎_elim, arith}
-use Rattle.std.proofs.lemmas.Bool.{ltb-true, ltb-false, leb-true, lt-ltb, le-leb, eq-eqb, ne_eqb, eqb-true, eqb-false, and_parts, not-true, false≢true, cases_lt}
+use Rattle.std.proofs.lemmas.Bool.{ltb-true, ltb-false, leb-true, lt-ltb, le-leb, eq-eqb, ne_eqb, eqb-true, eqb-false, and_parts, not-true, not_from_false, false_from_ne_true, false≢true, cases_lt}
 use Rattle.calls.specs.declared.kind.Kind.{Kind}
 use Rattle.calls.specs.declared.kind.Kind.TheVariants.{Hole, Reserved, Written}
 use Rattle.calls.specs.declared.call.Call.{Call}
@@ -101,10 +101,6 @@ some_solid [] (suc at) n e = absurd (false≢true (sym e ∙ none n))
     none zero = refl
     none (suc n) = refl
 some_solid (p ∷ ps) (suc at) n e = let s = some_solid ps at n e in record { at_place = suc s.at_place; from = omega (arith, s.from); below = omega (arith, s.below); solid = s.solid }
-
-is_not : (x : Bool) → (x ≡ true → ⊥) → not x ≡ true
-is_not true wrong = absurd (wrong refl)
-is_not false wrong = refl
 
 self : (f : ℕ) → eqb f f ≡ true
 self f = eq-eqb f f refl
@@ -212,8 +208,8 @@ module _ (c : Config) (m : Model) (s : Sound c.volume m) where
   listed (write_buffer ne) = inr (inr (inl (ap not (ne_eqb _ _ ne), refl)))
   listed (read_buffer ne) = inr (inr (inl (ap not (ne_eqb _ _ ne), refl)))
   listed (map_buffer lt) = inr (inl (lt-ltb _ _ lt, refl))
-  listed (whole_kind {f = f} {at = at} {n = n} {k = k} from to solid) = inr (inr (inr (inl (is_not _ (λ all. solid (holes_in (file m f) at n k from to all)), refl))))
-  listed (split_kind {f = f} {at = at} {n = n} {k = k} from to solid) = inr (inr (inr (inl (is_not _ (λ all. solid (holes_in (file m f) at n k from to all)), refl))))
+  listed (whole_kind {f = f} {at = at} {n = n} {k = k} from to solid) = inr (inr (inr (inl (not_from_false _ (false_from_ne_true _ (λ all. solid (holes_in (file m f) at n k from to all))), refl))))
+  listed (split_kind {f = f} {at = at} {n = n} {k = k} from to solid) = inr (inr (inr (inl (not_from_false _ (false_from_ne_true _ (λ all. solid (holes_in (file m f) at n k from to all))), refl))))
   listed (write_kind e) = inr (inr (inr (inl (ap is_hole e, refl))))
   listed (no_space {n = n} none) = inr (inr (inr (inr (inl (lt-ltb _ _ (space_reason n none), refl)))))
   listed (no_run {n = n} none) = inr (inr (inr (inr (inl (lt-ltb _ _ (run_reason n none), refl)))))
