@@ -1,4 +1,5 @@
 // The calls on a volume, with the numbers that each is given. A call that takes a buffer is lent it beside these.
+// Fields, and no struct of a file and a range in five of them: each rule matches its own call, and a struct would only put one more name before each number.
 #[derive(Clone, Copy, Debug, PartialEq, Eq)]
 pub enum Call {
     // puts `count` holes before place `at`

@@ -43,6 +43,7 @@ pub enum Refusal {
 }
 
 impl Refusal {
+    // by a match: a case that has fields can have no number in its type
     pub fn number(self) -> u32
         ensures { result ≡ refusal_number self }
     {

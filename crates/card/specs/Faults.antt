@@ -12,7 +12,7 @@ number_of Worn = 3
 
 -- The answer to a call on block b of a card of count blocks, with a buffer of len bytes: the first check that fails, or Ok.
 -- Only a write asks for the worn mark; a read is checked as a write to a block that is not worn.
-unfoldable pub checked : (count : ℕ) (worn : Bool) (b len : ℕ) → Result (Unit {0}) CardFault
+abbrev pub checked : (count : ℕ) (worn : Bool) (b len : ℕ) → Result (Unit {0}) CardFault
 checked count worn b len =
     if nat_le count b then Err OutOfRange
     else if not (len == block_size) then Err WrongLength

@@ -12,27 +12,22 @@ pub const MOST_BLOCKS: u32 = 16777216;
 #[derive(Clone, Copy, Debug, PartialEq, Eq)]
 pub enum CardFault {
     // the card has no block of that number
-    OutOfRange,
+    OutOfRange = 1,
     // the buffer is not 512 bytes long
-    WrongLength,
+    WrongLength = 2,
     // the block is worn and takes no more writes
-    Worn,
+    Worn = 3,
 }
 
 impl CardFault {
     pub fn number(self) -> u32
         ensures { result ≡ number_of self }
     {
-        match self {
-            CardFault::OutOfRange => 1,
-            CardFault::WrongLength => 2,
-            CardFault::Worn => 3,
-        }
+        self as u32
     }
 }
 
 // The first check that fails for a call on block `b` with a buffer of `len` bytes.
-#[tactic(auto, unfolding(crate::specs::Faults::checked))]
 pub fn check(count: u32, worn: bool, b: u32, len: usize) -> Result<(), CardFault>
     ensures { result ≡ checked count worn b len }
 {

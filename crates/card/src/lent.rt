@@ -1,4 +1,5 @@
 // A card on loan is a card, so that a pair can be made of cards that their owners keep.
+// Written for `&C` and again for `&mut C`, as std does: no bound covers both, since what `Deref` shows is a relation to proofs, and `contents` is a function.
 ghost use Rattle.std.specs.Borrow.{GName};
 
 use crate::fault::CardFault;

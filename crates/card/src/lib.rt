@@ -39,6 +39,8 @@ pub trait Card: ReadCard {
 
     // Stores the buffer as block `b`, or refuses and leaves the card as it was.
     fn write(&mut self, b: u32, buffer: &[u8]) -> Result<(), CardFault>
-        ensures written { Written (Self.contents self.old) (worn (kept self.old) b) b buffer.now (Self.contents self.new) result }
+        ensures written { Written (Self.contents self.old) (worn (kept self.old) b) b buffer.now
+            (Self.contents self.new) result }
+        // of the card before and after, so no type can hold it: whoever writes to a card passes it on
         ensures kept { kept self.new ≡ kept self.old };
 }

@@ -36,8 +36,8 @@ module _ (source target : List (List ℕ)) (worn : ℕ → Bool) where
       ((granted (length source) false b 512 both.0).inside, (granted (length target) (worn d) d 512 both.1).inside)
 
   -- a copy that stops at a worn block stops at one of the target
-  pub worn_within : (b d : ℕ) → copy_checked source target worn b d ≡ Err (Write Worn) → d < length target
-  worn_within b d e = worn_inside (length target) (worn d) d 512 (in_turn_worn (checked (length source) false b 512) (checked (length target) (worn d) d 512) e)
+  pub worn_within : (b d : ℕ) (fault : CopyFault) → copy_checked source target worn b d ≡ Err fault → fault ≡ Write Worn → d < length target
+  worn_within b d fault e w = worn_inside (length target) (worn d) d 512 (in_turn_worn (checked (length source) false b 512) (checked (length target) (worn d) d 512) (e ∙ ap Err w))
 
   module _ (first start k : ℕ) where
     -- so the blocks copied end within both cards

@@ -33,7 +33,8 @@ pub fn copy_block<S: ReadCard, D: Card>(
     to: &mut D,
     d: u32,
 ) -> Result<(), CopyFault>
-    ensures copied { BlockCopied (S.contents from.now) (D.contents to.old) (D.worn (D.kept to.old)) b d (D.contents to.new) result }
+    ensures copied { BlockCopied (S.contents from.now) (D.contents to.old) (D.worn (D.kept to.old)) b d
+        (D.contents to.new) result }
     ensures kept { D.kept to.new ≡ D.kept to.old }
 {
     let mut buffer = [0u8; BLOCK_SIZE];
@@ -43,9 +44,11 @@ pub fn copy_block<S: ReadCard, D: Card>(
 
 // Copies a row of blocks to the blocks from `start` on, in order, up to the first refusal.
 pub fn copy<S: ReadCard, D: Card>(from: &S, row: Row, to: &mut D, start: u32) -> Result<(), Stopped>
-    ensures copied { RowCopied (S.contents from.now) (D.contents to.old) (D.worn (D.kept to.old)) row start (D.contents to.new) result }
+    ensures copied { RowCopied (S.contents from.now) (D.contents to.old) (D.worn (D.kept to.old)) row start
+        (D.contents to.new) result }
     ensures kept { D.kept to.new ≡ D.kept to.old }
 {
+    // by a count, since that is what a stop tells
     for copied in 0..row.count {
         copy_block(from, row.first + copied, to, start + copied).map_err(|fault| Stopped {
             copied,

@@ -1,4 +1,5 @@
 // Work on memory through cards: who lends the memory learns what it then holds.
+// That the rest of a memory is as before is a clause of each, since it is said of the memory before and after, and no type holds that.
 ghost use Rattle.std.specs.Prelude.{◌≡◌, [], length};
 ghost use Rattle.memory_card.specs.Blocks.{blocks_of, rest_of};
 ghost use Rattle.card.specs.Cards.{Written};
@@ -37,7 +38,8 @@ pub fn copy_memory(
     start: u32,
 ) -> Result<(), Stopped>
     ensures rest { rest_of to.new ≡ rest_of to.old }
-    ensures copied { RowCopied (blocks_of from.now) (blocks_of to.old) (marked worn) row start (blocks_of to.new) result }
+    ensures copied { RowCopied (blocks_of from.now) (blocks_of to.old) (marked worn) row start
+        (blocks_of to.new) result }
 {
     let source = ReadOnlyCard::new(from);
     let mut target = MemoryCard::new(to, worn);
@@ -52,9 +54,13 @@ pub fn copy_to_both<S: ReadCard, P: Card, Q: Card>(
     second: &mut Q,
     start: u32,
 ) -> Result<(), Stopped>
-    ensures copied { RowCopied (S.contents from.now) (both_blocks (P.contents first.old) (Q.contents second.old)) (both_worn (length (P.contents first.old)) (P.worn (P.kept first.old)) (Q.worn (Q.kept second.old))) row start (both_blocks (P.contents first.new) (Q.contents second.new)) result }
+    ensures copied { RowCopied (S.contents from.now)
+        (both_blocks (P.contents first.old) (Q.contents second.old))
+        (both_worn (length (P.contents first.old)) (P.worn (P.kept first.old)) (Q.worn (Q.kept second.old)))
+        row start (both_blocks (P.contents first.new) (Q.contents second.new)) result }
     ensures count { length (P.contents first.new) ≡ length (P.contents first.old) }
-    ensures hidden { hidden_blocks (P.contents first.new) (Q.contents second.new) ≡ hidden_blocks (P.contents first.old) (Q.contents second.old) }
+    ensures hidden { hidden_blocks (P.contents first.new) (Q.contents second.new)
+        ≡ hidden_blocks (P.contents first.old) (Q.contents second.old) }
     ensures first { P.kept first.new ≡ P.kept first.old }
     ensures second { Q.kept second.new ≡ Q.kept second.old }
 {
@@ -70,8 +76,12 @@ pub fn copy_to_memories(
     two: &mut [u8],
     start: u32,
 ) -> Result<(), Stopped>
-    ensures copied { RowCopied (blocks_of from.now) (both_blocks (blocks_of one.old) (blocks_of two.old)) (both_worn (length (blocks_of one.old)) (marked []) (marked [])) row start (both_blocks (blocks_of one.new) (blocks_of two.new)) result }
-    ensures hidden { hidden_blocks (blocks_of one.new) (blocks_of two.new) ≡ hidden_blocks (blocks_of one.old) (blocks_of two.old) }
+    ensures copied { RowCopied (blocks_of from.now)
+        (both_blocks (blocks_of one.old) (blocks_of two.old))
+        (both_worn (length (blocks_of one.old)) (marked []) (marked []))
+        row start (both_blocks (blocks_of one.new) (blocks_of two.new)) result }
+    ensures hidden { hidden_blocks (blocks_of one.new) (blocks_of two.new)
+        ≡ hidden_blocks (blocks_of one.old) (blocks_of two.old) }
     ensures rest_one { rest_of one.new ≡ rest_of one.old }
     ensures rest_two { rest_of two.new ≡ rest_of two.old }
 {

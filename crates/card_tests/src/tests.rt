@@ -15,6 +15,7 @@ use std::process::Abort;
 use std::test::Fail;
 
 // A call on a card, by its block and the length of its buffer. A write's buffer is full of one byte.
+// Data, and no closures: a table of these is one literal, whose rows are as short as can be.
 #[derive(Clone, Copy)]
 enum Call {
     Read(u32, usize),

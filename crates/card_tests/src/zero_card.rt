@@ -29,7 +29,7 @@ impl ReadCard for ZeroCard {
         self.count
     }
 
-    #[tactic(auto, using(crate::proofs::Zeroing::steps), unfolding(card::specs::Faults::checked))]
+    #[tactic(auto, using(crate::proofs::Zeroing::steps))]
     fn read(&self, b: u32, buffer: &mut [u8]) -> Result<(), CardFault> {
         check(self.count, false, b, buffer.len())?;
         buffer.copy_from_slice(&[0; BLOCK_SIZE]);
@@ -46,7 +46,7 @@ impl Card for ZeroCard {
 
     ghost worn = { λ _ _. true };
 
-    #[tactic(auto, using(crate::proofs::Zeroing::steps), unfolding(card::specs::Faults::checked))]
+    #[tactic(auto, using(crate::proofs::Zeroing::steps))]
     fn write(&mut self, b: u32, buffer: &[u8]) -> Result<(), CardFault> {
         check(self.count, true, b, buffer.len())
     }

@@ -1,4 +1,5 @@
 // A memory as blocks: the calls that every card over memory shares.
+// A block is a range of bytes here, and no element of `as_chunks`: of `as_chunks_mut` no contract says what the memory then holds.
 ghost use Rattle.std.specs.Prelude.{◌≡◌, length};
 ghost use Rattle.memory_card.specs.Blocks.{blocks_of, rest_of};
 ghost use Rattle.card.specs.Cards.{Read, Written};
@@ -13,7 +14,7 @@ pub(crate) fn count_blocks(memory: &[u8]) -> u32
     (memory.len() / BLOCK_SIZE).min(MOST_BLOCKS as usize) as u32
 }
 
-#[tactic(auto, using(crate::proofs::Storing::reads), unfolding(card::specs::Faults::checked))]
+#[tactic(auto, using(crate::proofs::Storing::reads))]
 pub(crate) fn read_block(memory: &[u8], b: u32, buffer: &mut [u8]) -> Result<(), CardFault>
     ensures { Read (blocks_of memory.now) b buffer.old buffer.new result }
 {
@@ -23,7 +24,7 @@ pub(crate) fn read_block(memory: &[u8], b: u32, buffer: &mut [u8]) -> Result<(),
     Ok(())
 }
 
-#[tactic(auto, using(crate::proofs::Storing::writes), unfolding(card::specs::Faults::checked))]
+#[tactic(auto, using(crate::proofs::Storing::writes))]
 pub(crate) fn write_block(
     memory: &mut [u8],
     worn: bool,

@@ -27,6 +27,7 @@ impl<'a> MemoryCard<'a> {
     }
 }
 
+// As in `read_only.rt`, over a reference of the other kind: `blocks.rt` has the work, once for both.
 impl<'a> ReadCard for MemoryCard<'a> {
     ghost contents = { λ card. blocks_of card.memory.now };
 

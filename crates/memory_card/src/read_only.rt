@@ -21,6 +21,7 @@ impl<'a> ReadOnlyCard<'a> {
     }
 }
 
+// As in `memory.rt`, over a reference of the other kind: `blocks.rt` has the work, once for both.
 impl<'a> ReadCard for ReadOnlyCard<'a> {
     ghost contents = { λ card. blocks_of card.memory.now };
 

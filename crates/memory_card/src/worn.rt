@@ -8,6 +8,7 @@ use std::marker::Model;
 pub const MOST_WORN: usize = 16;
 
 // Up to 16 numbers of worn blocks. They are given when the list is made, and never change.
+// An array with its count, and no `ArrayVec`, which is not `Copy`: a list may be given to several cards.
 #[derive(Clone, Copy, Debug, PartialEq, Eq)]
 pub struct WornList {
     numbers: [u32; MOST_WORN],
@@ -31,7 +32,8 @@ impl Model for WornList {
 impl WornList {
     // The list of these numbers, or None where they are more than 16.
     pub fn new(numbers: &[u32]) -> Option<WornList>
-        ensures { MatchOption result (16 < length numbers.now) (λ w. (length numbers.now ≤ 16) × (w ≡ numbers.now)) }
+        ensures { MatchOption result (16 < length numbers.now)
+            (λ w. (length numbers.now ≤ 16) × (w ≡ numbers.now)) }
     {
         let count = numbers.len();
         if count > MOST_WORN {

@@ -35,7 +35,8 @@ impl<P, Q> PairCard<P, Q> {
 impl<P: ReadCard, Q: ReadCard> PairCard<P, Q> {
     // The place of block `b`, which the pair may not have.
     fn locate(&self, b: u32) -> Result<Place, CardFault>
-        ensures { result ≡ place_of (length (P.contents self.now.first)) (length (Q.contents self.now.second)) b }
+        ensures { result
+            ≡ place_of (length (P.contents self.now.first)) (length (Q.contents self.now.second)) b }
     {
         let first = self.first.count();
         if b >= joined_count(first, self.second.count()) {
@@ -72,7 +73,12 @@ impl<P: Card, Q: Card> Card for PairCard<P, Q> {
     // each card keeps what it keeps, the first its count, and no call reaches the hidden blocks
     ghost Kept = { P.Kept × Q.Kept × ℕ × List (List ℕ) };
 
-    ghost kept = { λ card. (P.kept card.first, Q.kept card.second, length (P.contents card.first), hidden_blocks (P.contents card.first) (Q.contents card.second)) };
+    ghost kept = { λ card. (
+      P.kept card.first,
+      Q.kept card.second,
+      length (P.contents card.first),
+      hidden_blocks (P.contents card.first) (Q.contents card.second),
+    ) };
 
     ghost worn = { λ kept. both_worn kept.2 (P.worn kept.0) (Q.worn kept.1) };
 

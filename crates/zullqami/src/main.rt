@@ -15,23 +15,24 @@ use std::alloc::{AllocError, Global};
 use transfer::{probe, transfer, verify};
 
 fn main(rt: HostRuntime) -> anyhow::Result<()> {
-    run(&rt)
+    run(&rt, rt.alloc())
 }
 
 // A recording of 12 blocks, and a card of 16 in two memories with three blocks worn.
-fn run(rt: &HostRuntime) -> anyhow::Result<()> {
-    let bytes = make_recording(rt.alloc(), 12)?;
-    let mut one = vec![in rt.alloc(); 0u8; 4096]?;
-    let mut two = vec![in rt.alloc(); 0u8; 4096]?;
+fn run(rt: &impl Print, heap: Global) -> anyhow::Result<()> {
+    let bytes = make_recording(heap, 12)?;
+    let mut one = vec![in heap; 0u8; 4096]?;
+    let mut two = vec![in heap; 0u8; 4096]?;
     let mut first = MemoryCard::new(&mut one, worn_list(&[3])?);
     let mut second = MemoryCard::new(&mut two, worn_list(&[0, 1])?);
     let mut card = PairCard::new(&mut first, &mut second);
-    move_to_card(rt, &ReadOnlyCard::new(&bytes), &mut card)
+    move_to_card(rt, heap, &ReadOnlyCard::new(&bytes), &mut card)
 }
 
 // Copies the recording to the card, asks the card for what it must refuse, and reads the recording back.
 fn move_to_card<S: ReadCard, D: Card>(
-    rt: &HostRuntime,
+    rt: &impl Print,
+    heap: Global,
     recording: &S,
     card: &mut D,
 ) -> anyhow::Result<()> {
@@ -43,7 +44,7 @@ fn move_to_card<S: ReadCard, D: Card>(
         "card: {} blocks in two memories, some of them worn",
         card.count()
     )?;
-    let mut tally = transfer(rt, recording, card)?;
+    let mut tally = transfer(rt, heap, recording, card)?;
     probe(rt, card, &mut tally)?;
     let verified = verify(recording, &*card, &tally);
     println!(rt;
@@ -59,9 +60,7 @@ fn worn_list(numbers: &[u32]) -> anyhow::Result<WornList> {
 
 // So many blocks, no two of them alike.
 fn make_recording(heap: Global, blocks: u8) -> Result<Vec<u8>, AllocError> {
-    let mut bytes = Vec::new(heap);
-    for block in 0..blocks {
-        bytes.extend((0..BLOCK_SIZE).map(|i| block.wrapping_add((i % 256) as u8)))?;
-    }
-    Ok(bytes)
+    (0..blocks)
+        .flat_map(|block| (0..BLOCK_SIZE).map(move |i| block.wrapping_add((i % 256) as u8)))
+        .collect(heap)
 }

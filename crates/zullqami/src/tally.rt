@@ -17,7 +17,8 @@ impl Leg {
     // The first `n` blocks of the leg, and what is left of it behind them.
     pub(crate) fn split_at(self, n: u32) -> (Leg, Leg)
         ensures front { result.0 ≡ record self { row = record self.row { count = n } } }
-        ensures rest_row { result.1.row ≡ record { first = min u32.MAX (self.row.first + n); count = self.row.count - n } }
+        ensures rest_row { result.1.row
+            ≡ record { first = min u32.MAX (self.row.first + n); count = self.row.count - n } }
         ensures rest_start { result.1.start ≡ min u32.MAX (self.start + n) }
     {
         let Leg { row, start } = self;
@@ -63,7 +64,7 @@ impl Tally {
     }
 
     // Counts and prints a leg that was copied, unless it is empty.
-    pub(crate) fn copied(&mut self, rt: &HostRuntime, leg: Leg) -> anyhow::Result<()> {
+    pub(crate) fn copied(&mut self, rt: &impl Print, leg: Leg) -> anyhow::Result<()> {
         if leg.row.count == 0 {
             return Ok(());
         }
@@ -73,10 +74,10 @@ impl Tally {
         Ok(())
     }
 
-    // Counts and prints a refusal.
+    // Counts and prints a refusal: a sentence of three values that no type has together.
     pub(crate) fn refused(
         &mut self,
-        rt: &HostRuntime,
+        rt: &impl Print,
         call: &str,
         block: u32,
         fault: CardFault,

@@ -1,17 +1,20 @@
 // Copying a recording to a card around the card's worn blocks, and reading it back.
+// The recording and the card are two arguments, and no struct of two references: each is lent as each function needs it.
 use crate::tally::{Leg, Tally};
 use card::fault::{BLOCK_SIZE, CardFault};
 use card::{Card, ReadCard};
 use card_copy::compare::same_block;
 use card_copy::copy::{CopyFault, Row, copy};
+use std::alloc::Global;
 
 // Copies the recording to the card in order, past each worn block, until all of it is there or another refusal ends it.
 pub(crate) fn transfer<S: ReadCard, D: Card>(
-    rt: &HostRuntime,
+    rt: &impl Print,
+    heap: Global,
     recording: &S,
     card: &mut D,
 ) -> anyhow::Result<Tally> {
-    let mut tally = Tally::new(rt.alloc());
+    let mut tally = Tally::new(heap);
     let mut left = Leg {
         row: Row {
             first: 0,
@@ -42,7 +45,7 @@ pub(crate) fn transfer<S: ReadCard, D: Card>(
 
 // Asks the card for two things that it must refuse: a block past its last, and a block of fewer than 512 bytes.
 pub(crate) fn probe<D: Card>(
-    rt: &HostRuntime,
+    rt: &impl Print,
     card: &mut D,
     tally: &mut Tally,
 ) -> anyhow::Result<()> {
