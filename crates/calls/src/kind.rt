@@ -13,14 +13,15 @@ pub enum Kind {
 }
 
 impl Kind {
-    // as in `CardFault`, and written again: no bound covers `as`
+    // a method with a name, and no `From`: a kind has a letter to be shown as, too.
+    // As at `CardFault`, and written again: no trait stands for the enums that `as` makes a number of
     pub fn number(self) -> u32
         ensures { result ≡ kind_number self }
     {
         self as u32
     }
 
-    // the letter that a map shows; by a match, since a letter is no number of the type
+    // the letter that a map shows; by a match, since the type's numbers are not the letters
     pub fn letter(self) -> u8
         ensures { result ≡ kind_letter self }
     {

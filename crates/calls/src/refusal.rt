@@ -43,7 +43,7 @@ pub enum Refusal {
 }
 
 impl Refusal {
-    // by a match: a case that has fields can have no number in its type
+    // by a match: a type whose cases have fields can have no numbers of its own
     pub fn number(self) -> u32
         ensures { result ≡ refusal_number self }
     {

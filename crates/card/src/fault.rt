@@ -20,6 +20,7 @@ pub enum CardFault {
 }
 
 impl CardFault {
+    // a method with a name, and no `From`: `u32::from(fault)` would not say what number it is
     pub fn number(self) -> u32
         ensures { result ≡ number_of self }
     {

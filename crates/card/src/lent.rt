@@ -1,5 +1,6 @@
 // A card on loan is a card, so that a pair can be made of cards that their owners keep.
-// Written for `&C` and again for `&mut C`, as std does: no bound covers both, since what `Deref` shows is a relation to proofs, and `contents` is a function.
+// Written for `&C` and again for `&mut C`, as std does. A bound `R: Deref` would cover both, but its contract relates a reference to what it shows, and gives no
+// function that could name a card's contents.
 ghost use Rattle.std.specs.Borrow.{GName};
 
 use crate::fault::CardFault;

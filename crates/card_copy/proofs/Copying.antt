@@ -4,14 +4,14 @@ use lib.Seq.{paste}
 use Rattle.std.proofs.lemmas.List.Edits.{paste_none, length-paste, paste_more}
 use Rattle.std.proofs.lemmas.List.{get_or-drop, length-drop}
 use Rattle.std.proofs.lemmas.Bool.{cases_lt, cond-true, cond-false}
-use Rattle.card_copy.specs.declared.copy.Row.{Row}
+use Rattle.card_copy.specs.declared.copy.CopyRange.{CopyRange}
 use Rattle.card_copy.specs.declared.copy.Stopped.{Stopped}
 use Rattle.card.specs.declared.fault.CardFault.{CardFault}
 use Rattle.card.specs.declared.fault.CardFault.TheVariants.{Worn}
 use Rattle.card_copy.specs.declared.copy.CopyFault.{CopyFault}
 use Rattle.card_copy.specs.declared.copy.CopyFault.TheVariants.{Write}
 use Rattle.card.specs.Faults.{checked}
-use Rattle.card_copy.specs.Copies.{in_turn, copy_checked, BlockCopied, Copied, RowCopied}
+use Rattle.card_copy.specs.Copies.{in_turn, copy_checked, BlockCopied, Copied, RangeCopied}
 use Rattle.card.proofs.Checks.{granted, worn_inside}
 
 only_ok : (r : Result (Unit {0}) CopyFault) → is_ok r ≡ true → r ≡ Ok tt
@@ -87,12 +87,12 @@ module _ (source target : List (List ℕ)) (worn : ℕ → Bool) where
 
   -- a copy that stops at this block says so
   pub stopped :
-      (row : Row) (start k : ℕ) (before after : List (List ℕ)) (marks : ℕ → Bool) (r : Result (Unit {0}) CopyFault) (s : Result (Unit {0}) Stopped) → Copied source target worn row.first start k before → marks ≡ worn →
-      k < row.count → BlockCopied source before marks (row.first + k) (start + k) after r → MatchResult r (λ x. s ≡ Ok x) (λ e. IsErrAnd s (λ (t : Stopped). t ≡ record { copied = k; fault = e })) → IsErr s → RowCopied source target worn row start after s
-  stopped row start k before after marks r (Ok x) done same h one says is = cc
-  stopped row start k before after marks (Ok x) (Err t) done same h one says is = cc
-  stopped row start k before after marks (Err fault) (Err t) done same h one says is =
-      let stop = copied_stop row.first start k before after marks (Err fault) done same one fault refl in
+      (range : CopyRange) (k : ℕ) (before after : List (List ℕ)) (marks : ℕ → Bool) (r : Result (Unit {0}) CopyFault) (s : Result (Unit {0}) Stopped) → Copied source target worn range.first range.start k before → marks ≡ worn →
+      k < range.count → BlockCopied source before marks (range.first + k) (range.start + k) after r → MatchResult r (λ x. s ≡ Ok x) (λ e. IsErrAnd s (λ (t : Stopped). t ≡ record { copied = k; fault = e })) → IsErr s → RangeCopied source target worn range after s
+  stopped range k before after marks r (Ok x) done same h one says is = cc
+  stopped range k before after marks (Ok x) (Err t) done same h one says is = cc
+  stopped range k before after marks (Err fault) (Err t) done same h one says is =
+      let stop = copied_stop range.first range.start k before after marks (Err fault) done same one fault refl in
       rw says (stop.0, h, stop.1)
 
   pub copied_none : (first start : ℕ) → Copied source target worn first start 0 target

@@ -4,7 +4,7 @@ use Rattle.std.proofs.Math.Seq.{paste}
 use Rattle.card.specs.declared.fault.CardFault.{CardFault}
 use Rattle.card_copy.specs.declared.copy.CopyFault.{CopyFault}
 use Rattle.card_copy.specs.declared.copy.CopyFault.TheVariants.{Read, Write}
-use Rattle.card_copy.specs.declared.copy.Row.{Row}
+use Rattle.card_copy.specs.declared.copy.CopyRange.{CopyRange}
 use Rattle.card_copy.specs.declared.copy.Stopped.{Stopped}
 use Rattle.card.specs.Faults.{checked}
 use Rattle.card.specs.Sizes.{block_size}
@@ -30,10 +30,10 @@ module _ (source target : List (List ℕ)) (worn : ℕ → Bool) where
     pub passed : (j : ℕ) → j < k → copy_checked (first + j) (start + j) ≡ Ok tt
     pub contents : after ≡ paste target start (drop first source) k
 
-  -- the copy of a row: all of it, or the blocks before the first one that is refused
-  abbrev pub RowCopied : Row → (start : ℕ) (after : List (List ℕ)) → Result (Unit {0}) Stopped → Type 0
-  RowCopied row start after (Ok x) = Copied row.first start row.count after
-  RowCopied row start after (Err stop) =
-      Copied row.first start stop.copied after
-      × (stop.copied < row.count)
-      × (copy_checked (row.first + stop.copied) (start + stop.copied) ≡ Err stop.fault)
+  -- the copy of a range: all of it, or the blocks before the first one that is refused
+  abbrev pub RangeCopied : CopyRange → (after : List (List ℕ)) → Result (Unit {0}) Stopped → Type 0
+  RangeCopied range after (Ok x) = Copied range.first range.start range.count after
+  RangeCopied range after (Err stop) =
+      Copied range.first range.start stop.copied after
+      × (stop.copied < range.count)
+      × (copy_checked (range.first + stop.copied) (range.start + stop.copied) ≡ Err stop.fault)

@@ -1,15 +1,41 @@
 // Copies from any card to any writing card.
-ghost use Rattle.std.specs.Prelude.{◌≡◌};
-ghost use Rattle.card_copy.specs.Copies.{BlockCopied, RowCopied};
+ghost use Rattle.std.specs.Prelude.{◌≡◌, ◌+◌, ◌-◌, min};
+ghost use Rattle.card_copy.specs.Copies.{BlockCopied, RangeCopied};
 
 use card::fault::{BLOCK_SIZE, CardFault};
 use card::{Card, ReadCard};
 
-// `count` blocks from block `first` on.
+// `count` blocks from block `first` of one card on, to the blocks from `start` on of another.
 #[derive(Clone, Copy, Debug, PartialEq, Eq)]
-pub struct Row {
+pub struct CopyRange {
     pub first: u32,
+    pub start: u32,
     pub count: u32,
+}
+
+impl CopyRange {
+    // Its first `n` blocks.
+    pub fn take(self, n: u32) -> CopyRange
+        ensures { result ≡ record self { count = min self.count n } }
+    {
+        CopyRange {
+            count: self.count.min(n),
+            ..self
+        }
+    }
+
+    // What is left of it behind its first `n` blocks.
+    pub fn skip(self, n: u32) -> CopyRange
+        ensures first { result.first ≡ min u32.MAX (self.first + n) }
+        ensures start { result.start ≡ min u32.MAX (self.start + n) }
+        ensures count { result.count ≡ self.count - n }
+    {
+        CopyRange {
+            first: self.first.saturating_add(n),
+            start: self.start.saturating_add(n),
+            count: self.count.saturating_sub(n),
+        }
+    }
 }
 
 // Which call of a copy was refused.
@@ -42,15 +68,15 @@ pub fn copy_block<S: ReadCard, D: Card>(
     to.write(d, &buffer).map_err(CopyFault::Write)
 }
 
-// Copies a row of blocks to the blocks from `start` on, in order, up to the first refusal.
-pub fn copy<S: ReadCard, D: Card>(from: &S, row: Row, to: &mut D, start: u32) -> Result<(), Stopped>
-    ensures copied { RowCopied (S.contents from.now) (D.contents to.old) (D.worn (D.kept to.old)) row start
-        (D.contents to.new) result }
+// Copies a range of blocks, in order, up to the first refusal.
+pub fn copy<S: ReadCard, D: Card>(from: &S, to: &mut D, range: CopyRange) -> Result<(), Stopped>
+    ensures copied { RangeCopied (S.contents from.now) (D.contents to.old) (D.worn (D.kept to.old))
+        range (D.contents to.new) result }
     ensures kept { D.kept to.new ≡ D.kept to.old }
 {
-    // by a count, since that is what a stop tells
-    for copied in 0..row.count {
-        copy_block(from, row.first + copied, to, start + copied).map_err(|fault| Stopped {
+    // a loop, since the card changes: of a closure that changes what it captures a proof knows nothing
+    for copied in 0..range.count {
+        copy_block(from, range.first + copied, to, range.start + copied).map_err(|fault| Stopped {
             copied,
             fault,
         })?;

@@ -3,13 +3,13 @@
 ghost use Rattle.std.specs.Prelude.{◌≡◌, [], length};
 ghost use Rattle.memory_card.specs.Blocks.{blocks_of, rest_of};
 ghost use Rattle.card.specs.Cards.{Written};
-ghost use Rattle.card_copy.specs.Copies.{RowCopied};
+ghost use Rattle.card_copy.specs.Copies.{RangeCopied};
 ghost use Rattle.pair_card.specs.Pairs.{both_blocks, both_worn, hidden_blocks};
 ghost use Rattle.memory_card.specs.Worn.{marked};
 
 use card::fault::CardFault;
 use card::{Card, ReadCard};
-use card_copy::copy::{Row, Stopped, copy};
+use card_copy::copy::{CopyRange, Stopped, copy};
 use memory_card::memory::MemoryCard;
 use memory_card::read_only::ReadOnlyCard;
 use memory_card::worn::WornList;
@@ -32,32 +32,30 @@ pub fn write_memory(
 // Copies blocks of one memory to another.
 pub fn copy_memory(
     from: &[u8],
-    row: Row,
     to: &mut [u8],
     worn: WornList,
-    start: u32,
+    range: CopyRange,
 ) -> Result<(), Stopped>
     ensures rest { rest_of to.new ≡ rest_of to.old }
-    ensures copied { RowCopied (blocks_of from.now) (blocks_of to.old) (marked worn) row start
+    ensures copied { RangeCopied (blocks_of from.now) (blocks_of to.old) (marked worn) range
         (blocks_of to.new) result }
 {
     let source = ReadOnlyCard::new(from);
     let mut target = MemoryCard::new(to, worn);
-    copy(&source, row, &mut target, start)
+    copy(&source, &mut target, range)
 }
 
 // Copies blocks to two cards as one. The pair is made where its cards are on loan, so that each owner knows its own again.
 pub fn copy_to_both<S: ReadCard, P: Card, Q: Card>(
     from: &S,
-    row: Row,
     first: &mut P,
     second: &mut Q,
-    start: u32,
+    range: CopyRange,
 ) -> Result<(), Stopped>
-    ensures copied { RowCopied (S.contents from.now)
+    ensures copied { RangeCopied (S.contents from.now)
         (both_blocks (P.contents first.old) (Q.contents second.old))
         (both_worn (length (P.contents first.old)) (P.worn (P.kept first.old)) (Q.worn (Q.kept second.old)))
-        row start (both_blocks (P.contents first.new) (Q.contents second.new)) result }
+        range (both_blocks (P.contents first.new) (Q.contents second.new)) result }
     ensures count { length (P.contents first.new) ≡ length (P.contents first.old) }
     ensures hidden { hidden_blocks (P.contents first.new) (Q.contents second.new)
         ≡ hidden_blocks (P.contents first.old) (Q.contents second.old) }
@@ -65,21 +63,20 @@ pub fn copy_to_both<S: ReadCard, P: Card, Q: Card>(
     ensures second { Q.kept second.new ≡ Q.kept second.old }
 {
     let mut pair = PairCard::new(first, second);
-    copy(from, row, &mut pair, start)
+    copy(from, &mut pair, range)
 }
 
 // Copies blocks of one memory to two others as one.
 pub fn copy_to_memories(
     from: &[u8],
-    row: Row,
     one: &mut [u8],
     two: &mut [u8],
-    start: u32,
+    range: CopyRange,
 ) -> Result<(), Stopped>
-    ensures copied { RowCopied (blocks_of from.now)
+    ensures copied { RangeCopied (blocks_of from.now)
         (both_blocks (blocks_of one.old) (blocks_of two.old))
         (both_worn (length (blocks_of one.old)) (marked []) (marked []))
-        row start (both_blocks (blocks_of one.new) (blocks_of two.new)) result }
+        range (both_blocks (blocks_of one.new) (blocks_of two.new)) result }
     ensures hidden { hidden_blocks (blocks_of one.new) (blocks_of two.new)
         ≡ hidden_blocks (blocks_of one.old) (blocks_of two.old) }
     ensures rest_one { rest_of one.new ≡ rest_of one.old }
@@ -88,5 +85,5 @@ pub fn copy_to_memories(
     let source = ReadOnlyCard::new(from);
     let mut first = MemoryCard::new(one, WornList::none());
     let mut second = MemoryCard::new(two, WornList::none());
-    copy_to_both(&source, row, &mut first, &mut second, start)
+    copy_to_both(&source, &mut first, &mut second, range)
 }

@@ -6,13 +6,12 @@ use card::fault::CardFault::{OutOfRange, Worn, WrongLength};
 use card::{Card, ReadCard};
 use card_copy::compare::same_block;
 use card_copy::copy::CopyFault::{Read, Write};
-use card_copy::copy::{CopyFault, Row, Stopped};
+use card_copy::copy::{CopyFault, CopyRange, Stopped};
 use memory_card::memory::MemoryCard;
 use memory_card::read_only::ReadOnlyCard;
-use memory_card::worn::WornList;
+use memory_card::worn::{TooManyWorn, WornList};
 use pair_card::PairCard;
 use std::process::Abort;
-use std::test::Fail;
 
 // A call on a card, by its block and the length of its buffer. A write's buffer is full of one byte.
 // Data, and no closures: a table of these is one literal, whose rows are as short as can be.
@@ -22,7 +21,7 @@ enum Call {
     Write(u32, usize, u8),
 }
 
-// What a read answers, and the first byte of its buffer, which was 99.
+// What a read answers, and the first byte of its buffer, which was 99. No row of a table asks for more than 600 bytes.
 fn read<C: ReadCard>(card: &C, b: u32, len: usize) -> (Result<(), CardFault>, u8) {
     let mut buffer = [99u8; 600];
     let answer = card.read(b, &mut buffer[..len.min(600)]);
@@ -60,10 +59,6 @@ fn memory_holds(rt: &impl Abort, memory: &[u8], count: u32, table: &[(u32, u8)])
     holds(rt, &ReadOnlyCard::new(memory), count, table);
 }
 
-fn worn(numbers: &[u32]) -> Result<WornList, Fail> {
-    WornList::new(numbers).ok_or_else(|| Fail::new("too many worn blocks"))
-}
-
 #[test]
 fn memory_has_the_blocks_that_fit(rt: HostRuntime) {
     let memory = [7u8; 1025];
@@ -97,9 +92,9 @@ fn memory_of_less_than_a_block_refuses_every_call(rt: HostRuntime) {
 }
 
 #[test]
-fn checks_come_in_their_order(rt: HostRuntime) -> Result<(), Fail> {
+fn checks_come_in_their_order(rt: HostRuntime) -> Result<(), TooManyWorn> {
     let mut memory = [3u8; 1536];
-    let mut card = MemoryCard::new(&mut memory, worn(&[1])?);
+    let mut card = MemoryCard::new(&mut memory, WornList::new(&[1])?);
     answers(
         &rt,
         &mut card,
@@ -121,22 +116,22 @@ fn checks_come_in_their_order(rt: HostRuntime) -> Result<(), Fail> {
 }
 
 #[test]
-fn sixteen_blocks_may_be_worn(rt: HostRuntime) -> Result<(), Fail> {
+fn sixteen_blocks_may_be_worn(rt: HostRuntime) -> Result<(), TooManyWorn> {
     let numbers = [0, 1, 2, 3, 4, 5, 6, 7, 8, 9, 10, 11, 12, 13, 14, 99, 15];
-    assert!(rt; WornList::new(&numbers).is_none());
-    let list = worn(&numbers[0..16])?;
+    assert!(rt; WornList::new(&numbers) == Err(TooManyWorn));
+    let list = WornList::new(&numbers[..16])?;
     assert!(rt; list.contains(0) && list.contains(14) && list.contains(99) && !list.contains(15));
     assert!(rt; !WornList::none().contains(0));
     Ok(())
 }
 
 #[test]
-fn a_pair_has_the_blocks_of_both(rt: HostRuntime) -> Result<(), Fail> {
+fn a_pair_has_the_blocks_of_both(rt: HostRuntime) -> Result<(), TooManyWorn> {
     let mut one = [1u8; 1024];
     let mut two = [2u8; 1024];
     let mut pair = PairCard::new(
-        MemoryCard::new(&mut one, worn(&[1])?),
-        MemoryCard::new(&mut two, worn(&[0])?),
+        MemoryCard::new(&mut one, WornList::new(&[1])?),
+        MemoryCard::new(&mut two, WornList::new(&[0])?),
     );
     holds(&rt, &pair, 4, &[(0, 1), (1, 1), (2, 2), (3, 2)]);
     answers(
@@ -207,39 +202,43 @@ fn stop(copied: u32, fault: CopyFault) -> Result<(), Stopped> {
     Err(Stopped { copied, fault })
 }
 
-// Copies to this memory, one after the other, have to answer as the table says: a row, where it goes to, and the answer.
+// Copies to this memory, one after the other, have to answer as the table says.
 fn stops(
     rt: &impl Abort,
     from: &[u8],
     to: &mut [u8],
     list: WornList,
-    table: &[(Row, u32, Result<(), Stopped>)],
+    table: &[(CopyRange, Result<(), Stopped>)],
 ) {
-    for (row, start, answer) in table {
-        assert_eq!(rt; copy_memory(from, *row, to, list, *start), *answer);
+    for (range, answer) in table {
+        assert_eq!(rt; copy_memory(from, to, list, *range), *answer);
     }
 }
 
-// `count` blocks from block `first` on.
-fn row(first: u32, count: u32) -> Row {
-    Row { first, count }
+// `count` blocks from block `first` on, to the blocks from `start` on.
+fn range(first: u32, count: u32, start: u32) -> CopyRange {
+    CopyRange {
+        first,
+        start,
+        count,
+    }
 }
 
 #[test]
-fn a_copy_stops_at_the_first_refusal(rt: HostRuntime) -> Result<(), Fail> {
+fn a_copy_stops_at_the_first_refusal(rt: HostRuntime) -> Result<(), TooManyWorn> {
     let mut target = [0u8; 2560];
     stops(
         &rt,
         &[5; 2048],
         &mut target,
-        worn(&[3])?,
+        WornList::new(&[3])?,
         &[
-            (row(0, 4), 1, stop(2, Write(Worn))),
-            (row(2, 3), 0, stop(2, Read(OutOfRange))),
-            (row(0, 2), 4, stop(1, Write(OutOfRange))),
-            (row(9, 0), 9, Ok(())),
-            (row(u32::MAX, u32::MAX), 0, stop(0, Read(OutOfRange))),
-            (row(0, u32::MAX), u32::MAX, stop(0, Write(OutOfRange))),
+            (range(0, 4, 1), stop(2, Write(Worn))),
+            (range(2, 3, 0), stop(2, Read(OutOfRange))),
+            (range(0, 2, 4), stop(1, Write(OutOfRange))),
+            (range(9, 0, 9), Ok(())),
+            (range(u32::MAX, u32::MAX, 0), stop(0, Read(OutOfRange))),
+            (range(0, u32::MAX, u32::MAX), stop(0, Write(OutOfRange))),
         ],
     );
     memory_holds(&rt, &target, 5, &[(0, 5), (1, 5), (2, 5), (3, 0), (4, 5)]);
@@ -251,7 +250,7 @@ fn a_copy_goes_across_the_seam_of_a_pair(rt: HostRuntime) {
     let mut one = [0u8; 1024];
     let mut two = [0u8; 1024];
     assert_eq!(rt;
-        copy_to_memories(&[5; 1024], row(0, 2), &mut one, &mut two, 1),
+        copy_to_memories(&[5; 1024], &mut one, &mut two, range(0, 2, 1)),
         Ok(())
     );
     memory_holds(&rt, &one, 2, &[(0, 0), (1, 5)]);

@@ -1,5 +1,6 @@
 -- A memory as blocks.
 use Rattle.std.specs.Prelude.{ℕ, ◌*◌, ◌/◌, min, List, map, length, take, drop}
+use Rattle.std.specs.Borrow.{GName}
 use Rattle.std.specs.List.{range_with_len}
 use Rattle.card.specs.Sizes.{block_size, most_blocks}
 
@@ -14,3 +15,9 @@ blocks_of memory = map (block_of memory) (range_with_len 0 (min most_blocks (len
 -- the bytes behind the last block, which are in none
 abbrev pub rest_of : List ℕ → List ℕ
 rest_of memory = drop (length (blocks_of memory) * block_size) memory
+
+-- what no call on a memory card changes: the loan, the bytes that are in no block, and the numbers of the worn blocks
+pub record MemoryKept : Type 0 where
+  pub lender : GName
+  pub rest : List ℕ
+  pub worn : List ℕ

@@ -1,5 +1,6 @@
 // A memory as blocks: the calls that every card over memory shares.
-// A block is a range of bytes here, and no element of `as_chunks`: of `as_chunks_mut` no contract says what the memory then holds.
+// A block is a range of bytes, and no element of `as_chunks`: of `as_chunks_mut` no contract says what the memory then holds, and
+// a read is written as a write is.
 ghost use Rattle.std.specs.Prelude.{◌≡◌, length};
 ghost use Rattle.memory_card.specs.Blocks.{blocks_of, rest_of};
 ghost use Rattle.card.specs.Cards.{Read, Written};

@@ -1,7 +1,6 @@
 // A writing card over memory on loan.
-ghost use Rattle.std.specs.Prelude.{◌≡◌, ℕ, List};
-ghost use Rattle.std.specs.Borrow.{GName};
-ghost use Rattle.memory_card.specs.Blocks.{blocks_of, rest_of};
+ghost use Rattle.std.specs.Prelude.{◌≡◌};
+ghost use Rattle.memory_card.specs.Blocks.{MemoryKept, blocks_of, rest_of};
 ghost use Rattle.memory_card.specs.Stored.{blocks_shaped};
 ghost use Rattle.memory_card.specs.Worn.{marked};
 
@@ -27,7 +26,7 @@ impl<'a> MemoryCard<'a> {
     }
 }
 
-// As in `read_only.rt`, over a reference of the other kind: `blocks.rt` has the work, once for both.
+// Two bodies of two lines, as in `read_only.rt`: one trait over both kinds of reference, with an impl for each, would be longer.
 impl<'a> ReadCard for MemoryCard<'a> {
     ghost contents = { λ card. blocks_of card.memory.now };
 
@@ -43,12 +42,11 @@ impl<'a> ReadCard for MemoryCard<'a> {
 }
 
 impl<'a> Card for MemoryCard<'a> {
-    // the loan, the bytes that are in no block, and the worn blocks
-    ghost Kept = { GName × List ℕ × List ℕ };
+    ghost Kept = { MemoryKept };
 
-    ghost kept = { λ card. (card.memory.ghost_name, rest_of card.memory.now, card.worn) };
+    ghost kept = { λ card. record { lender = card.memory.ghost_name; rest = rest_of card.memory.now; worn = card.worn } };
 
-    ghost worn = { λ kept. marked kept.2 };
+    ghost worn = { λ kept. marked kept.worn };
 
     fn write(&mut self, b: u32, buffer: &[u8]) -> Result<(), CardFault> {
         let worn = self.worn.contains(b);

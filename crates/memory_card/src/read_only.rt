@@ -21,7 +21,7 @@ impl<'a> ReadOnlyCard<'a> {
     }
 }
 
-// As in `memory.rt`, over a reference of the other kind: `blocks.rt` has the work, once for both.
+// Two bodies of two lines, as in `memory.rt`: one trait over both kinds of reference, with an impl for each, would be longer.
 impl<'a> ReadCard for ReadOnlyCard<'a> {
     ghost contents = { λ card. blocks_of card.memory.now };
 

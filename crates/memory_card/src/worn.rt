@@ -1,11 +1,25 @@
 // The worn blocks of a memory card.
-ghost use Rattle.std.specs.Prelude.{◌≡◌, ◌<◌, ◌≤◌, [], length, MatchOption};
+ghost use Rattle.std.specs.Prelude.{◌≡◌, ◌<◌, ◌≤◌, [], length, MatchResult};
 ghost use Rattle.memory_card.specs.Worn.{marked};
 
+use std::error::Error;
+use std::fmt;
 use std::marker::Model;
 
 // the most worn blocks that a list has
 pub const MOST_WORN: usize = 16;
+
+// More numbers were given than a list has.
+#[derive(Clone, Copy, Debug, PartialEq, Eq)]
+pub struct TooManyWorn;
+
+impl fmt::Display for TooManyWorn {
+    fn fmt<W: fmt::Write>(&self, f: &mut fmt::Formatter<W>) -> fmt::Result {
+        write!(f, "more than {MOST_WORN} worn blocks")
+    }
+}
+
+impl Error for TooManyWorn {}
 
 // Up to 16 numbers of worn blocks. They are given when the list is made, and never change.
 // An array with its count, and no `ArrayVec`, which is not `Copy`: a list may be given to several cards.
@@ -15,33 +29,33 @@ pub struct WornList {
     count: usize,
 }
 
-// A clause sees the list of the numbers. The places behind them hold zeros, so that the list tells all of the fields.
+// A clause sees the list of the numbers.
 impl Model for WornList {
-    ghost use Rattle.std.specs.Prelude.{◌≡◌, ℕ, ◌≤◌, List, length, take};
-    ghost use Rattle.memory_card.specs.Worn.{filled_up};
+    ghost use Rattle.std.specs.Prelude.{ℕ, List, length, take};
+    ghost use Rattle.memory_card.specs.Worn.{IsKept, filled_up};
 
     ghost Value = { List ℕ };
 
     ghost view = { λ w. take w.count w.numbers };
 
-    ghost invariant = { λ w. (w.count ≤ 16) × (length w.numbers ≡ 16) × (filled_up (take w.count w.numbers) ≡ w.numbers) };
+    ghost invariant = { λ w. IsKept w.numbers w.count };
 
+    // the view tells every field, which `Copy` asks for
     ghost inverse = { λ xs. record { numbers = filled_up xs; count = length xs } };
 }
 
 impl WornList {
-    // The list of these numbers, or None where they are more than 16.
-    pub fn new(numbers: &[u32]) -> Option<WornList>
-        ensures { MatchOption result (16 < length numbers.now)
-            (λ w. (length numbers.now ≤ 16) × (w ≡ numbers.now)) }
+    // The list of these numbers, unless they are more than 16.
+    pub fn new(numbers: &[u32]) -> Result<WornList, TooManyWorn>
+        ensures { MatchResult result (λ w. (length numbers.now ≤ 16) × (w ≡ numbers.now)) (λ _. 16 < length numbers.now) }
     {
         let count = numbers.len();
         if count > MOST_WORN {
-            return None;
+            return Err(TooManyWorn);
         }
         let mut kept = [0; MOST_WORN];
         kept[..count].copy_from_slice(numbers);
-        Some(WornList {
+        Ok(WornList {
             numbers: kept,
             count,
         })

@@ -24,3 +24,10 @@ place_of n m b =
     if nat_le (min most_blocks (n + m)) b then Err OutOfRange
     else if nat_lt b n then Ok (First b)
     else Ok (Second (b - n))
+
+-- what no call on a pair changes: what each card keeps, how many blocks the first has, and the blocks in no call's reach
+pub record PairKept (P Q : Type 0) : Type 0 where
+  pub first : P
+  pub second : Q
+  pub count : ℕ
+  pub hidden : List (List ℕ)

@@ -1,9 +1,9 @@
 // Two cards joined into one.
 #![tactic(auto)]
 
-ghost use Rattle.std.specs.Prelude.{◌≡◌, ℕ, ◌+◌, min, List, length};
+ghost use Rattle.std.specs.Prelude.{◌≡◌, ◌+◌, min, length};
 ghost use Rattle.card.specs.Sizes.{most_blocks};
-ghost use Rattle.pair_card.specs.Pairs.{both_blocks, both_worn, hidden_blocks, place_of};
+ghost use Rattle.pair_card.specs.Pairs.{PairKept, both_blocks, both_worn, hidden_blocks, place_of};
 ghost use Rattle.pair_card.specs.Paired.{both_shaped};
 
 use card::fault::{CardFault, MOST_BLOCKS};
@@ -70,17 +70,16 @@ impl<P: ReadCard, Q: ReadCard> ReadCard for PairCard<P, Q> {
 }
 
 impl<P: Card, Q: Card> Card for PairCard<P, Q> {
-    // each card keeps what it keeps, the first its count, and no call reaches the hidden blocks
-    ghost Kept = { P.Kept × Q.Kept × ℕ × List (List ℕ) };
+    ghost Kept = { PairKept P.Kept Q.Kept };
 
-    ghost kept = { λ card. (
-      P.kept card.first,
-      Q.kept card.second,
-      length (P.contents card.first),
-      hidden_blocks (P.contents card.first) (Q.contents card.second),
-    ) };
+    ghost kept = { λ card. record {
+      first = P.kept card.first;
+      second = Q.kept card.second;
+      count = length (P.contents card.first);
+      hidden = hidden_blocks (P.contents card.first) (Q.contents card.second);
+    } };
 
-    ghost worn = { λ kept. both_worn kept.2 (P.worn kept.0) (Q.worn kept.1) };
+    ghost worn = { λ kept. both_worn kept.count (P.worn kept.first) (Q.worn kept.second) };
 
     #[tactic(auto, using(crate::proofs::Pairing::writes))]
     fn write(&mut self, b: u32, buffer: &[u8]) -> Result<(), CardFault> {

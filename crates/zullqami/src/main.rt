@@ -4,7 +4,6 @@
 mod tally;
 mod transfer;
 
-use anyhow::Context;
 use card::fault::BLOCK_SIZE;
 use card::{Card, ReadCard};
 use memory_card::memory::MemoryCard;
@@ -12,6 +11,7 @@ use memory_card::read_only::ReadOnlyCard;
 use memory_card::worn::WornList;
 use pair_card::PairCard;
 use std::alloc::{AllocError, Global};
+use tally::Tally;
 use transfer::{probe, transfer, verify};
 
 fn main(rt: HostRuntime) -> anyhow::Result<()> {
@@ -23,18 +23,18 @@ fn run(rt: &impl Print, heap: Global) -> anyhow::Result<()> {
     let bytes = make_recording(heap, 12)?;
     let mut one = vec![in heap; 0u8; 4096]?;
     let mut two = vec![in heap; 0u8; 4096]?;
-    let mut first = MemoryCard::new(&mut one, worn_list(&[3])?);
-    let mut second = MemoryCard::new(&mut two, worn_list(&[0, 1])?);
+    let mut first = MemoryCard::new(&mut one, WornList::new(&[3])?);
+    let mut second = MemoryCard::new(&mut two, WornList::new(&[0, 1])?);
     let mut card = PairCard::new(&mut first, &mut second);
-    move_to_card(rt, heap, &ReadOnlyCard::new(&bytes), &mut card)
+    move_to_card(rt, &ReadOnlyCard::new(&bytes), &mut card, Tally::new(heap))
 }
 
 // Copies the recording to the card, asks the card for what it must refuse, and reads the recording back.
 fn move_to_card<S: ReadCard, D: Card>(
     rt: &impl Print,
-    heap: Global,
     recording: &S,
     card: &mut D,
+    mut tally: Tally,
 ) -> anyhow::Result<()> {
     println!(rt;
         "recording: {} blocks in read-only memory",
@@ -44,18 +44,16 @@ fn move_to_card<S: ReadCard, D: Card>(
         "card: {} blocks in two memories, some of them worn",
         card.count()
     )?;
-    let mut tally = transfer(rt, heap, recording, card)?;
+    transfer(rt, recording, card, &mut tally)?;
     probe(rt, card, &mut tally)?;
     let verified = verify(recording, &*card, &tally);
     println!(rt;
         "copied {}, refused {}, verified {}",
-        tally.copied, tally.refused, verified
+        tally.copied(),
+        tally.refused,
+        verified
     )?;
     Ok(())
-}
-
-fn worn_list(numbers: &[u32]) -> anyhow::Result<WornList> {
-    WornList::new(numbers).context("more than 16 worn blocks")
 }
 
 // So many blocks, no two of them alike.

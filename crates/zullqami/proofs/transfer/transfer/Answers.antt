@@ -12,5 +12,5 @@ loop-stop-smaller g c =
     let left = c.loop-stop.left in
     let worn : c.in-Err.stop.fault ≡ Write Worn = search rules in
     let inside : left.start + k < length (g.D.ReadCard.contents c.loop-stop.card) =
-    worn_within (g.S.ReadCard.contents c.args.recording.now) (g.D.ReadCard.contents c.loop-stop.card) (g.D.Card.worn (g.D.Card.kept c.loop-stop.card)) (left.row.first + k) (left.start + k) c.in-Err.stop.fault c.in-Err.ensures.copied.2 worn in
+    worn_within (g.S.ReadCard.contents c.args.recording.now) (g.D.ReadCard.contents c.loop-stop.card) (g.D.Card.worn (g.D.Card.kept c.loop-stop.card)) (left.first + k) (left.start + k) c.in-Err.stop.fault c.in-Err.ensures.copied.2 worn in
     search rules
