@@ -1,8 +1,9 @@
 -- No choice has fewer pieces than the split.
-use Rattle.std.proofs.Common.{◌≡◌, ℕ, zero, suc, ◌+◌, ◌-◌, ◌<◌, ◌≤◌, max, Bool, true, false, cond, not, eqb, ltb, leb, List, [], ◌∷◌, length, count_by, sym, refl, ap, ◌∙◌, ⊎_elim, arith}
+use Rattle.std.proofs.Common.{◌≡◌, ℕ, zero, suc, ◌+◌, ◌-◌, ◌<◌, ◌≤◌, max, Bool, true, false, cond, not, eqb, ltb, List, [], ◌∷◌, length, count_by, sym, refl, ap, ◌∙◌, arith}
 use Rattle.std.proofs.lemmas.List.Sums.{sum_by-cons}
-use Rattle.std.proofs.lemmas.Bool.{ltb-true, ltb-false, leb-false, eqb-false, eq-eqb, ne_eqb, cond_both, cases_eq, cases_lt}
-use Rattle.model.specs.Space.{Blocks, times, Run, run_before, runs_from, runs, total, most, longest, others, lowest_fit, split_up_to}
+use Rattle.std.proofs.lemmas.Bool.{ltb-true, ltb-false, eqb-false, cond_both}
+use Rattle.std.proofs.lemmas.Bool.Decides.{nat_tests}
+use Rattle.model.specs.Space.{Blocks, times, Run, run_before, runs_from, runs, total, most, others, split_up_to}
 use Rattle.model.specs.Ownership.{one_if}
 use Rattle.model.specs.Pieces.{preceded, pieces}
 use Rattle.model.proofs.Basics.{one_if_le}
@@ -41,7 +42,7 @@ record Fewer (xs : List Run) (os : List Run) (l : ℕ) : Type 0 where
 exchange : {xs rs : List Run} → Sub xs rs → 0 < length xs → Fewer xs (others rs) (most rs)
 exchange none some = absurd (omega arith)
 exchange (skip {r = r} {xs = xs} {rs = rs} s) some =
-    cond_both (ltb r.count (most rs)) (r ∷ others rs) rs (λ os. Fewer xs os (max r.count (most rs)))
+    cond_both (ltb r.count (most rs)) _ _ (λ os. Fewer xs os (max r.count (most rs)))
     (λ e. let ih = exchange s some in record { rest = ih.rest; sub = skip ih.sub; fewer = ih.fewer; near = omega (arith, ih.near) })
     (λ e. first_out xs rs s some (ltb-false r.count (most rs) e))
   where
@@ -49,7 +50,7 @@ exchange (skip {r = r} {xs = xs} {rs = rs} s) some =
     first_out [] rs s some le = absurd (omega arith)
     first_out (x ∷ xs) rs s some le = record { rest = xs; sub = sub_tail s; fewer = refl; near = omega (arith, sub_most s) }
 exchange (keep {r = r} {xs = xs} {rs = rs} s) some =
-    cond_both (ltb r.count (most rs)) (r ∷ others rs) rs (λ os. Fewer (r ∷ xs) os (max r.count (most rs)))
+    cond_both (ltb r.count (most rs)) _ _ (λ os. Fewer (r ∷ xs) os (max r.count (most rs)))
     (λ e. go xs rs s (ltb-true r.count (most rs) e) (exchange s))
     (λ e. record { rest = xs; sub = s; fewer = refl; near = omega arith })
   where
@@ -60,72 +61,42 @@ exchange (keep {r = r} {xs = xs} {rs = rs} s) some =
 -- no selection that has room for n has fewer runs than the split
 pub split_fewest : (k n : ℕ) (rs xs : List Run) → length rs ≤ k → Sub xs rs → 0 < n → n ≤ total xs → length (split_up_to k n rs) ≤ length xs
 split_fewest zero n rs xs short s pos fits = omega arith
-split_fewest (suc k) n rs xs short s pos fits =
-    cond_both (leb n (most rs)) (lowest_fit n rs ∷ []) (longest rs ∷ split_up_to k (n - most rs) (others rs)) (λ x. length x ≤ length xs)
-    (λ e. some xs fits)
-    (λ e. more rs short s (leb-false n (most rs) e) (λ ys le sub. split_fewest k (n - most rs) (others rs) ys le sub))
-  where
-    some : (xs : List Run) → n ≤ total xs → 1 ≤ length xs
-    some [] le = absurd (omega arith)
-    some (x ∷ xs) le = omega arith
-
-    more : (rs : List Run) → length rs ≤ suc k → Sub xs rs → most rs < n
-        → ((ys : List Run) → length (others rs) ≤ k → Sub ys (others rs) → 0 < n - most rs → n - most rs ≤ total ys → length (split_up_to k (n - most rs) (others rs)) ≤ length ys)
-        → suc (length (split_up_to k (n - most rs) (others rs))) ≤ length xs
-    more [] short s lt ih = absurd (omega (arith, sub_total s))
-    more (r ∷ rs) short s lt ih =
-        let f = exchange s (some xs fits) in
-        omega (arith, ih f.rest (omega (arith, (parted r rs).fewer)) f.sub (omega arith) (omega (arith, f.near)), f.fewer)
+split_fewest (suc k) n rs [] short s pos fits = absurd (omega arith)
+split_fewest (suc k) n [] (x ∷ xs) short s pos fits = absurd (omega (arith, sub_total s))
+split_fewest (suc k) n (r ∷ rs) (x ∷ xs) short s pos fits =
+    let f = exchange s (omega arith) in
+    grind (arith, nat_tests, f, parted r rs, split_fewest k (n - most (r ∷ rs)) (others (r ∷ rs)) f.rest)
 
 -- sums over n blocks from s on
 abbrev pub tally : (ℕ → ℕ) → ℕ → ℕ → ℕ
 tally g s zero = 0
 tally g s (suc n) = g s + tally g (suc s) n
 
-pub tally_add : (g h : ℕ → ℕ) (s n : ℕ) → tally (λ x. g x + h x) s n ≡ tally g s n + tally h s n
-tally_add g h s zero = refl
-tally_add g h s (suc n) = omega (arith, tally_add g h (suc s) n)
+-- a count that is a sum of two, over the blocks that pass a test
+pub tally_sum : (p : ℕ → Bool) (f g h : ℕ → ℕ) (s n : ℕ) → ((x : ℕ) → f x ≡ g x + h x) → tally (λ x. cond (p x) (f x) 0) s n ≡ tally (λ x. cond (p x) (g x) 0) s n + tally (λ x. cond (p x) (h x) 0) s n
+tally_sum p f g h s zero sum = refl
+tally_sum p f g h s (suc n) sum = grind (arith, sum s, tally_sum p f g h (suc s) n sum)
 
-pub tally_same : (g h : ℕ → ℕ) (s n : ℕ) → ((x : ℕ) → g x ≡ h x) → tally g s n ≡ tally h s n
-tally_same g h s zero same = refl
-tally_same g h s (suc n) same = omega (arith, same s, tally_same g h (suc s) n same)
+pub tally_zero : (p : ℕ → Bool) (s n : ℕ) → tally (λ x. cond (p x) 0 0) s n ≡ 0
+tally_zero p s zero = refl
+tally_zero p s (suc n) = grind (arith, tally_zero p (suc s) n)
 
 pub tally_none : (p : ℕ → Bool) (b s n : ℕ) → b < s → tally (λ x. cond (p x) (one_if (eqb b x)) 0) s n ≡ 0
 tally_none p b s zero lt = refl
-tally_none p b s (suc n) lt =
-    let here : cond (p s) (one_if (eqb b s)) 0 ≡ 0 = cond_both (p s) (one_if (eqb b s)) 0 (λ y. y ≡ 0) (λ _. rw (ne_eqb b s (λ q. omega arith))) (λ _. refl) in
-    omega (arith, here, tally_none p b (suc s) n (omega arith))
+tally_none p b s (suc n) lt = grind (arith, nat_tests, tally_none p b (suc s) n)
 
 pub tally_one : (p : ℕ → Bool) (b s n : ℕ) → s ≤ b → b < s + n → tally (λ x. cond (p x) (one_if (eqb b x)) 0) s n ≡ one_if (p b)
 tally_one p b s zero le lt = absurd (omega arith)
-tally_one p b s (suc n) le lt =
-    ⊎_elim
-    (λ (same : b ≡ s).
-    let here : cond (p s) (one_if (eqb b s)) 0 ≡ one_if (p b) = rw (eq-eqb b s same, same) in
-    omega (arith, here, tally_none p b (suc s) n (omega arith)))
-    (λ other.
-    let here : cond (p s) (one_if (eqb b s)) 0 ≡ 0 = cond_both (p s) (one_if (eqb b s)) 0 (λ y. y ≡ 0) (λ _. rw (ne_eqb b s other)) (λ _. refl) in
-    omega (arith, here, tally_one p b (suc s) n (omega arith) (omega arith)))
-    (cases_eq b s)
-
-pub cond_sum : (b : Bool) (x y : ℕ) → cond b (x + y) 0 ≡ cond b x 0 + cond b y 0
-cond_sum true x y = refl
-cond_sum false x y = refl
+tally_one p b s (suc n) le lt = grind (arith, nat_tests, tally_none p b (suc s) n, tally_one p b (suc s) n)
 
 -- counting over a list of blocks below v is counting over the blocks
 pub over_blocks : (p : ℕ → Bool) (v : ℕ) (bs : List ℕ) → ((b : ℕ) → v ≤ b → times bs b ≡ 0) → count_by p bs ≡ tally (λ x. cond (p x) (times bs x) 0) 0 v
-over_blocks p v [] below = sym (zeros 0 v)
-  where
-    zeros : (s n : ℕ) → tally (λ x. cond (p x) 0 0) s n ≡ 0
-    zeros s zero = refl
-    zeros s (suc n) = let here : ◌≡◌ {A = ℕ} (cond (p s) 0 0) 0 = cond_both {A = ℕ} (p s) 0 0 (λ y. y ≡ 0) (λ _. refl) (λ _. refl) in omega (arith, here, zeros (suc s) n)
+over_blocks p v [] below = sym (tally_zero p 0 v)
 over_blocks p v (b ∷ bs) below =
-    let under : b < v = ⊎_elim (λ lt. lt) (λ ge. absurd (omega (arith, below b ge, times_cons b bs b, ap one_if (eq-eqb b b refl)))) (cases_lt b v) in
+    let under : b < v = grind (arith, nat_tests, below b, times_cons b bs b) in
     let rest = over_blocks p v bs (λ x ge. omega (arith, below x ge, times_cons b bs x)) in
-    let split = tally_same (λ x. cond (p x) (times (b ∷ bs) x) 0) (λ x. cond (p x) (one_if (eqb b x)) 0 + cond (p x) (times bs x) 0) 0 v (λ x. ap (λ y. cond (p x) y 0) (times_cons b bs x) ∙ cond_sum (p x) (one_if (eqb b x)) (times bs x)) in
-    let sum = tally_add (λ x. cond (p x) (one_if (eqb b x)) 0) (λ x. cond (p x) (times bs x) 0) 0 v in
-    let one = tally_one p b 0 v (omega arith) (omega arith) in
-    sum_by-cons (λ x. cond (p x) 1 0) b bs ∙ omega (arith, rest, split, sum, one)
+    let sum = tally_sum p (times (b ∷ bs)) (λ x. one_if (eqb b x)) (times bs) 0 v (times_cons b bs) in
+    sum_by-cons (λ x. cond (p x) 1 0) b bs ∙ omega (arith, rest, sum, tally_one p b 0 v (omega arith) (omega arith))
 
 length_count : (bs : List ℕ) → count_by (λ _. true) bs ≡ length bs
 length_count [] = refl
@@ -154,28 +125,28 @@ record Passed (rs : List Run) (room : ℕ) (few : ℕ) : Type 0 where
 grow : (s : ℕ) {xs rs : List Run} → Sub xs rs → Grown s (run_before true s rs) (suc (total xs)) (suc (length xs))
 grow s none = record { picked = record { start = s; count = 1 } ∷ []; head = headed refl none; wide = omega arith; short = omega arith }
 grow s (skip {r = r} {xs = xs} {rs = rs} q) =
-    cond_both (eqb (suc s) r.start) (record { start = s; count = suc r.count } ∷ rs) (record { start = s; count = 1 } ∷ r ∷ rs) (λ os. Grown s os (suc (total xs)) (suc (length xs)))
+    cond_both (eqb (suc s) r.start) _ _ (λ os. Grown s os (suc (total xs)) (suc (length xs)))
     (λ e. record { picked = record { start = s; count = suc r.count } ∷ xs; head = headed refl q; wide = omega arith; short = omega arith })
     (λ e. record { picked = record { start = s; count = 1 } ∷ xs; head = headed refl (skip q); wide = omega arith; short = omega arith })
 grow s (keep {r = r} {xs = xs} {rs = rs} q) =
-    cond_both (eqb (suc s) r.start) (record { start = s; count = suc r.count } ∷ rs) (record { start = s; count = 1 } ∷ r ∷ rs) (λ os. Grown s os (suc (total (r ∷ xs))) (suc (length (r ∷ xs))))
+    cond_both (eqb (suc s) r.start) _ _ (λ os. Grown s os (suc (total (r ∷ xs))) (suc (length (r ∷ xs))))
     (λ e. record { picked = record { start = s; count = suc r.count } ∷ xs; head = headed refl q; wide = omega arith; short = omega arith })
     (λ e. record { picked = record { start = s; count = 1 } ∷ r ∷ xs; head = headed refl (keep q); wide = omega arith; short = omega arith })
 
 grow_head : (s : ℕ) {xs rs : List Run} → Headed (suc s) xs rs → Grown s (run_before true s rs) (suc (total xs)) (length xs)
 grow_head s (headed {r = r} {xs = xs} {rs = rs} at q) =
-    cond_both (eqb (suc s) r.start) (record { start = s; count = suc r.count } ∷ rs) (record { start = s; count = 1 } ∷ r ∷ rs) (λ os. Grown s os (suc (total (r ∷ xs))) (length (r ∷ xs)))
+    cond_both (eqb (suc s) r.start) _ _ (λ os. Grown s os (suc (total (r ∷ xs))) (length (r ∷ xs)))
     (λ e. record { picked = record { start = s; count = suc r.count } ∷ xs; head = headed refl q; wide = omega arith; short = omega arith })
     (λ e. absurd (eqb-false (suc s) r.start e (sym at)))
 
 pass : (s : ℕ) {xs rs : List Run} → Sub xs rs → Passed (run_before true s rs) (total xs) (length xs)
 pass s none = record { picked = []; sub = skip none; wide = omega arith; short = omega arith }
 pass s (skip {r = r} {xs = xs} {rs = rs} q) =
-    cond_both (eqb (suc s) r.start) (record { start = s; count = suc r.count } ∷ rs) (record { start = s; count = 1 } ∷ r ∷ rs) (λ os. Passed os (total xs) (length xs))
+    cond_both (eqb (suc s) r.start) _ _ (λ os. Passed os (total xs) (length xs))
     (λ e. record { picked = xs; sub = skip q; wide = omega arith; short = omega arith })
     (λ e. record { picked = xs; sub = skip (skip q); wide = omega arith; short = omega arith })
 pass s (keep {r = r} {xs = xs} {rs = rs} q) =
-    cond_both (eqb (suc s) r.start) (record { start = s; count = suc r.count } ∷ rs) (record { start = s; count = 1 } ∷ r ∷ rs) (λ os. Passed os (total (r ∷ xs)) (length (r ∷ xs)))
+    cond_both (eqb (suc s) r.start) _ _ (λ os. Passed os (total (r ∷ xs)) (length (r ∷ xs)))
     (λ e. record { picked = record { start = s; count = suc r.count } ∷ xs; sub = keep q; wide = omega arith; short = omega arith })
     (λ e. record { picked = r ∷ xs; sub = skip (keep q); wide = omega arith; short = omega arith })
 
@@ -187,8 +158,7 @@ abbrev pub continues : List ℕ → ℕ → ℕ
 continues bs x = cond (preceded bs x) (times bs x) 0
 
 begins_or_continues : (p : Bool) (t : ℕ) → cond (not p) t 0 + cond p t 0 ≡ t
-begins_or_continues true t = omega arith
-begins_or_continues false t = omega arith
+begins_or_continues p t = grind arith
 
 continues_none : (bs : List ℕ) (x : ℕ) → times bs x ≡ 0 → continues bs (suc x) ≡ 0
 continues_none bs x e = rw e

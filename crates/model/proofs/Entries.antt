@@ -1,8 +1,8 @@
 -- The extents never outnumber the entries of the table.
-use Rattle.std.proofs.Common.{◌≡◌, ℕ, zero, suc, ◌+◌, ◌<◌, ◌≤◌, Bool, true, false, cond, eqb, List, [], ◌∷◌, ◌++◌, length, get_or, take, drop, set, replicate, sym, refl, ap, ◌∙◌, ap₂, arith, length-drop, take-append-drop, length-take}
-use lib.Dec.{leb-suc-suc}
-use Rattle.std.proofs.lemmas.List.{drop-drop, set_split}
-use Rattle.std.proofs.lemmas.Bool.{lt-ltb, le-ltb, eq-eqb, cond_both}
+use Rattle.std.proofs.Common.{◌≡◌, ℕ, zero, suc, ◌+◌, ◌<◌, ◌≤◌, eqb, List, [], ◌∷◌, ◌++◌, length, get_or, take, drop, set, replicate, refl, ap, ◌∙◌, ap₂, arith, length-drop, take-append-drop, length-take}
+use Rattle.std.proofs.lemmas.Bool.Decides.{nat_tests}
+use Rattle.std.proofs.lemmas.List.{places, drop-drop, set_split}
+use Rattle.std.proofs.lemmas.Bool.{eq-eqb, cond_both}
 use Rattle.calls.specs.declared.kind.Kind.{Kind}
 use Rattle.calls.specs.declared.kind.Kind.TheVariants.{Reserved}
 use Rattle.model.specs.Places.{Place, hole, range, inserted, collapsed, punched, laid, reserved}
@@ -28,25 +28,16 @@ pub record Head (k : Kind) (b : ℕ) (es : List Extent) : Type 0 where
 pub before_head : (k : Kind) (b : ℕ) (es : List Extent) → Head k b (before k b es)
 before_head k b [] = record { first = record { kind = k; count = 1; block = b }; rest = []; is = refl; kind = refl; block = refl }
 before_head k b (e ∷ es) =
-    cond_both (goes_on k b e.kind e.block) (record { kind = k; count = suc e.count; block = b } ∷ es) (record { kind = k; count = 1; block = b } ∷ e ∷ es) (λ x. Head k b x)
+    cond_both (goes_on k b e.kind e.block) _ _ (λ x. Head k b x)
     (λ _. record { first = record { kind = k; count = suc e.count; block = b }; rest = es; is = refl; kind = refl; block = refl })
     (λ _. record { first = record { kind = k; count = 1; block = b }; rest = e ∷ es; is = refl; kind = refl; block = refl })
 
 before_length : (k : Kind) (b : ℕ) (e : Extent) (es : List Extent) → length (before k b (e ∷ es)) + one_if (goes_on k b e.kind e.block) ≡ suc (suc (length es))
-before_length k b e es = go (goes_on k b e.kind e.block)
-  where
-    go : (x : Bool) → length (cond x (record { kind = k; count = suc e.count; block = b } ∷ es) (record { kind = k; count = 1; block = b } ∷ e ∷ es)) + one_if x ≡ suc (suc (length es))
-    go true = omega arith
-    go false = omega arith
+before_length k b e es = grind (arith, nat_tests)
 
 pub ext_cons : (p : Place) (ps : List Place) → ext (p ∷ ps) + link p ps ≡ suc (ext ps)
 ext_cons p [] = refl
-ext_cons p (q ∷ qs) =
-    let h = before_head q.kind q.block (extents qs) in
-    let one : length (before p.kind p.block (h.first ∷ h.rest)) + one_if (goes_on p.kind p.block h.first.kind h.first.block) ≡ suc (suc (length h.rest)) = before_length p.kind p.block h.first h.rest in
-    let two : length (before p.kind p.block (extents (q ∷ qs))) ≡ length (before p.kind p.block (h.first ∷ h.rest)) = ap (λ es. length (before p.kind p.block es)) h.is in
-    let three : one_if (goes_on p.kind p.block h.first.kind h.first.block) ≡ link p (q ∷ qs) = ap₂ (λ k b. one_if (goes_on p.kind p.block k b)) h.kind h.block in
-    omega (arith, one, two, three, ap length h.is)
+ext_cons p (q ∷ qs) = let h = before_head q.kind q.block (extents qs) in rw h.is (grind (arith, before_length p.kind p.block h.first h.rest, h))
 
 pub ext_some : (ps : List Place) → 0 < length ps → 1 ≤ ext ps
 ext_some [] lt = absurd (omega arith)
@@ -68,37 +59,29 @@ ext_append_le xs ys = omega (arith, ext_append xs ys)
 
 -- cut is that
 pub cut_cons : (p : Place) (ps : List Place) (i : ℕ) → cut (p ∷ ps) (suc (suc i)) ≡ cut ps (suc i)
-cut_cons p ps i = rw (leb-suc-suc (suc (suc i)) (length ps))
+cut_cons p ps i = grind (arith, nat_tests)
 
 pub cut_past : (ps : List Place) (i : ℕ) → length ps ≤ suc i → cut ps (suc i) ≡ 0
-cut_past ps i le = rw (le-ltb (suc i) (length ps) le)
+cut_past ps i le = grind (arith, nat_tests)
 
 cut_join : (ps : List Place) (at : ℕ) → cut ps at ≡ join (take at ps) (drop at ps)
 cut_join ps zero = refl
 cut_join [] (suc i) = cut_past [] i (omega arith)
 cut_join (p ∷ []) (suc zero) = refl
 cut_join (p ∷ []) (suc (suc i)) = cut_past (p ∷ []) (suc i) (omega arith)
-cut_join (p ∷ q ∷ qs) (suc zero) = rw (lt-ltb 1 (suc (suc (length qs))) (omega arith))
+cut_join (p ∷ q ∷ qs) (suc zero) = grind (arith, nat_tests)
 cut_join (p ∷ q ∷ qs) (suc (suc i)) = cut_cons p (q ∷ qs) i ∙ cut_join (q ∷ qs) (suc i)
 
 pub cut_drop : (ps : List Place) (at i : ℕ) → cut (drop at ps) (suc i) ≡ cut ps (suc (at + i))
-cut_drop ps zero i = ap (λ j. cut ps (suc j)) (let e : i ≡ 0 + i = omega arith in e)
-cut_drop [] (suc at) i = cut_past [] i (omega arith) ∙ sym (cut_past [] (suc at + i) (omega arith))
-cut_drop (p ∷ ps) (suc at) i = cut_drop ps at i ∙ sym (cut_cons p ps (at + i)) ∙ ap (λ j. cut (p ∷ ps) (suc j)) (let e : suc (at + i) ≡ suc at + i = omega arith in e)
+cut_drop ps at i = grind (arith, nat_tests, places)
 
 -- the front, the range and the rest of a list of places
-module _ (ps : List Place) (at n : ℕ) where
-  pub cut_once : ext (take at ps) + ext (drop at ps) ≡ ext ps + cut ps at
-  cut_once = omega (arith, ext_append (take at ps) (drop at ps), ap ext (take-append-drop at ps), cut_join ps at)
+pub cut_once : (ps : List Place) (at : ℕ) → ext (take at ps) + ext (drop at ps) ≡ ext ps + cut ps at
+cut_once ps at = grind (arith, ext_append (take at ps) (drop at ps), take-append-drop at ps, cut_join ps at)
 
-  pub cut_twice : 0 < n → ext (take at ps) + (ext (range ps at n) + ext (drop n (drop at ps))) ≡ ext ps + (cut ps at + cut ps (at + n))
-  cut_twice pos = go n pos
-    where
-      go : (n : ℕ) → 0 < n → ext (take at ps) + (ext (range ps at n) + ext (drop n (drop at ps))) ≡ ext ps + (cut ps at + cut ps (at + n))
-      go zero pos = absurd (omega arith)
-      go (suc i) pos =
-          let d = drop at ps in
-          omega (arith, cut_once, ext_append (take (suc i) d) (drop (suc i) d), ap ext (take-append-drop (suc i) d), cut_join d (suc i), cut_drop ps at i, ap (cut ps) (let e : suc (at + i) ≡ at + suc i = omega arith in e))
+pub cut_twice : (ps : List Place) (at n : ℕ) → 0 < n → ext (take at ps) + (ext (range ps at n) + ext (drop n (drop at ps))) ≡ ext ps + (cut ps at + cut ps (at + n))
+cut_twice ps at zero pos = absurd (omega arith)
+cut_twice ps at (suc i) pos = omega (arith, cut_once ps at, cut_once (drop at ps) (suc i), cut_drop ps at i, ap (cut ps) (let e : suc (at + i) ≡ at + suc i = omega arith in e))
 
 ext_holes : (n : ℕ) → ext (replicate n hole) ≤ 1
 ext_holes zero = omega arith
@@ -122,7 +105,7 @@ laid_runs (q ∷ qs) ps = omega (arith, laid_row q.start q.count (blocks_of qs) 
 -- each change needs no more entries than the rules ask for
 module _ (ps : List Place) (at n : ℕ) where
   pub inserted_ext : ext (inserted ps at n) ≤ ext ps + (cut ps at + 1)
-  inserted_ext = omega (arith, ext_append_le (take at ps) (replicate n hole ++ drop at ps), ext_append_le (replicate n hole) (drop at ps), ext_holes n, cut_once ps at 0)
+  inserted_ext = omega (arith, ext_append_le (take at ps) (replicate n hole ++ drop at ps), ext_append_le (replicate n hole) (drop at ps), ext_holes n, cut_once ps at)
 
   pub collapsed_ext : 0 < n → ext (collapsed ps at n) ≤ ext ps + (cut ps at + cut ps (at + n))
   collapsed_ext pos = omega (arith, ext_append_le (take at ps) (drop n (drop at ps)), cut_twice ps at n pos)

@@ -1,8 +1,8 @@
 -- The extents of a file are the only longest stretches that stand for its places.
-use Rattle.std.proofs.Common.{◌≡◌, ℕ, zero, suc, true, false, ◌||◌, eqb, List, [], ◌∷◌, ◌++◌, get_or, sym, refl, ap, ◌∙◌, subst, ap₂, ⊎_elim}
-use Rattle.std.proofs.lemmas.Bool.{eqb-true, eq-eqb, and_parts, false≢true, cond_both, cond-true, cond-false, cases_Bool}
+use Rattle.std.proofs.Common.{◌≡◌, ℕ, zero, suc, true, false, ◌||◌, eqb, List, [], ◌∷◌, ◌++◌, get_or, sym, refl, ap, ◌∙◌, subst, ap₂, arith}
+use Rattle.std.proofs.lemmas.Bool.Decides.{nat_tests}
+use Rattle.std.proofs.lemmas.Bool.{and_parts, false≢true, cond_both}
 use Rattle.calls.specs.declared.kind.Kind.{Kind}
-use Rattle.calls.specs.declared.kind.Kind.TheVariants.{Hole, Reserved, Written}
 use Rattle.model.specs.Places.{Place, hole, is_hole}
 use Rattle.model.specs.Extents.{Extent, same_kind, goes_on, before, extents}
 use Rattle.model.specs.Limits.{Tidy, TidyAs}
@@ -19,12 +19,10 @@ found_mappings [] = refl
 found_mappings (p ∷ ps) = ap (before p.kind p.block) (found_mappings ps)
 
 goes_on_next : (k : Kind) (b : ℕ) → goes_on k b k (next k b) ≡ true
-goes_on_next Hole b = refl
-goes_on_next Reserved b = eq-eqb (suc b) (suc b) refl
-goes_on_next Written b = eq-eqb (suc b) (suc b) refl
+goes_on_next k b = grind (arith, nat_tests)
 
 before_next : (k : Kind) (b n : ℕ) (es : List Extent) → before k b (record { kind = k; count = n; block = next k b } ∷ es) ≡ record { kind = k; count = suc n; block = b } ∷ es
-before_next k b n es = cond-true (goes_on k b k (next k b)) (record { kind = k; count = suc n; block = b } ∷ es) (record { kind = k; count = 1; block = b } ∷ record { kind = k; count = n; block = next k b } ∷ es) (goes_on_next k b)
+before_next k b n es = rw (goes_on_next k b)
 
 -- a hole's extent begins at block 0
 abbrev Zeroed : List Extent → Type 0
@@ -38,27 +36,17 @@ NotOn k b (e ∷ es) = goes_on k b e.kind e.block ≡ false
 
 before_apart : (k : Kind) (b : ℕ) (es : List Extent) → NotOn k b es → before k b es ≡ record { kind = k; count = 1; block = b } ∷ es
 before_apart k b [] a = refl
-before_apart k b (e ∷ es) a = cond-false (goes_on k b e.kind e.block) (record { kind = k; count = suc e.count; block = b } ∷ es) (record { kind = k; count = 1; block = b } ∷ e ∷ es) a
+before_apart k b (e ∷ es) a = rw a
 
 found_stretch : (k : Kind) (b n : ℕ) (xs : List Mapping) (es : List Extent) → found xs ≡ es → NotOn k (last_block k b n) es → found (stretch k b (suc n) ++ xs) ≡ record { kind = k; count = suc n; block = b } ∷ es
 found_stretch k b zero xs es e a = ap (before k b) e ∙ before_apart k b es a
 found_stretch k b (suc n) xs es e a = ap (before k b) (found_stretch k (next k b) n xs es e a) ∙ before_next k b (suc n) es
 
-kinds_same : (k j : Kind) → same_kind k j ≡ true → k ≡ j
-kinds_same Hole Hole e = refl
-kinds_same Hole Reserved e = absurd (false≢true e)
-kinds_same Hole Written e = absurd (false≢true e)
-kinds_same Reserved Hole e = absurd (false≢true e)
-kinds_same Reserved Reserved e = refl
-kinds_same Reserved Written e = absurd (false≢true e)
-kinds_same Written Hole e = absurd (false≢true e)
-kinds_same Written Reserved e = absurd (false≢true e)
-kinds_same Written Written e = refl
+pub kinds_same : (k j : Kind) → same_kind k j ≡ true → k ≡ j
+kinds_same k j e = grind arith
 
 next_is : (k : Kind) (b a : ℕ) → (is_hole k ≡ true → b ≡ 0) → (is_hole k ≡ true → a ≡ 0) → (is_hole k || eqb (suc b) a) ≡ true → next k b ≡ a
-next_is Hole b a zb za e = zb refl ∙ sym (za refl)
-next_is Reserved b a zb za e = eqb-true (suc b) a e
-next_is Written b a zb za e = eqb-true (suc b) a e
+next_is k b a zb za e = grind (arith, nat_tests)
 
 -- a hole has block 0
 abbrev Plain : Kind → ℕ → Type 0
@@ -83,20 +71,11 @@ plain_first (e ∷ es) p l = go e.count p l.0
 
 last_plain : (k : Kind) (b n : ℕ) → Plain k b → Plain k (last_block k b n)
 last_plain k b zero p = p
-last_plain Hole b (suc n) p = last_plain Hole b n p
-last_plain Reserved b (suc n) p = λ h. absurd (false≢true h)
-last_plain Written b (suc n) p = λ h. absurd (false≢true h)
+last_plain k b (suc n) p = last_plain k (next k b) n (λ h. grind arith)
 
 apart_not_on : (k : Kind) (b : ℕ) (es : List Extent) → Plain k b → Zeroed es → Apart k b es → NotOn k b es
 apart_not_on k b [] p z a = tt
-apart_not_on k b (e ∷ es) p z a =
-    ⊎_elim
-    (λ on.
-    let both = and_parts (same_kind k e.kind) (is_hole k || eqb (suc b) e.block) on in
-    let same = kinds_same k e.kind both.0 in
-    absurd (a (sym same) (sym (next_is k b e.block p (λ h. z (sym (ap is_hole same) ∙ h)) both.1))))
-    (λ off. off)
-    (cases_Bool (goes_on k b e.kind e.block))
+apart_not_on k b (e ∷ es) p z a = grind (arith, nat_tests, kinds_same k e.kind)
 
 found_spread : (es : List Extent) → AllPlain (spread es) → Longest es → found (spread es) ≡ es
 found_spread [] p l = refl
@@ -110,9 +89,7 @@ found_spread (e ∷ es) p l =
 
 -- of tidy places
 tidy_head : (k : Kind) (p : Place) → TidyAs k p → is_hole k ≡ true → p.block ≡ 0
-tidy_head Hole p t h = t.0
-tidy_head Reserved p t h = absurd (false≢true h)
-tidy_head Written p t h = absurd (false≢true h)
+tidy_head k p t h = grind arith
 
 tidy_plain : (ps : List Place) → ((k : ℕ) → Tidy (get_or ps k hole)) → AllPlain (mappings ps)
 tidy_plain [] tidy = tt
@@ -126,7 +103,7 @@ record Stood (k : Kind) (b : ℕ) (old : List Extent) (es : List Extent) : Type 
 stood : (k : Kind) (b : ℕ) (es : List Extent) → (is_hole k ≡ true → b ≡ 0) → Longest es → Zeroed es → Stood k b es (before k b es)
 stood k b [] zb l z = record { spreads = refl; longest = (tt, tt); zeroed = zb }
 stood k b (e ∷ es) zb l z =
-    cond_both (goes_on k b e.kind e.block) (record { kind = k; count = suc e.count; block = b } ∷ es) (record { kind = k; count = 1; block = b } ∷ e ∷ es) (λ x. Stood k b (e ∷ es) x)
+    cond_both (goes_on k b e.kind e.block) _ _ (λ x. Stood k b (e ∷ es) x)
     (λ q.
     let both = and_parts (same_kind k e.kind) (is_hole k || eqb (suc b) e.block) q in
     let same = kinds_same k e.kind both.0 in
@@ -143,7 +120,7 @@ stood k b (e ∷ es) zb l z =
 
     behind : (n : ℕ) → k ≡ e.kind → next k b ≡ e.block → Ends e.kind e.block n es → Apart k (last_block k b n) es
     behind zero same to a = elim a [ ]
-    behind (suc n) same to a = subst (λ j. Apart j (last_block j (next k b) n) es) (sym same) (subst (λ x. Apart e.kind (last_block e.kind x n) es) (sym to) a)
+    behind (suc n) same to a = subst (λ j. Apart j (last_block j (next k b) n) es) (sym same) (rw to a)
 
 record AllStood (ps : List Place) : Type 0 where
   spreads : spread (extents ps) ≡ mappings ps
@@ -162,5 +139,5 @@ extents_exact = record {
   stand = λ ps tidy. (all_stood ps tidy).spreads;
   longest = λ ps tidy. (all_stood ps tidy).longest;
   only = λ ps es tidy stands long. sym (found_mappings ps) ∙ ap found (sym stands) ∙ found_spread es (subst AllPlain (sym stands) (tidy_plain ps tidy)) long;
-  cuts = λ ps at. cut_once ps at 0;
+  cuts = λ ps at. cut_once ps at;
 }

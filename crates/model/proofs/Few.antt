@@ -2,9 +2,8 @@
 use Rattle.std.proofs.Common.{◌≡◌, ℕ, zero, suc, ◌+◌, ◌<◌, ◌≤◌, Bool, true, false, cond, not, ◌&&◌, ◌||◌, eqb, ltb, List, [], ◌∷◌, length, sum_by, count_by, sym, refl, ap, ◌∙◌, ap₂, ⊎_elim, arith}
 use Rattle.std.proofs.Math.Bool.{and-false}
 use Rattle.std.proofs.lemmas.List.Sums.{sum_by-cons}
-use Rattle.std.proofs.lemmas.Bool.{eqb-true, eqb-false, eq-eqb, ne_eqb, lt-ltb, and_parts, or_cases, not-true, false≢true, cond_both, cond-false, cases_eq, cases_Bool}
+use Rattle.std.proofs.lemmas.Bool.{lt-ltb, and_parts, not-true, cond_both, cases_Bool}
 use Rattle.calls.specs.declared.kind.Kind.{Kind}
-use Rattle.calls.specs.declared.kind.Kind.TheVariants.{Hole, Reserved, Written}
 use Rattle.model.specs.Places.{Place, is_hole, on, held}
 use Rattle.model.specs.Extents.{same_kind, Extent, goes_on, before, extents}
 use Rattle.model.specs.Space.{Blocks, Run, run_before, runs_from, runs}
@@ -14,7 +13,9 @@ use Rattle.model.specs.Ownership.{one_if, owners}
 use Rattle.model.specs.Limits.{owning, owning_count, FewRuns}
 use Rattle.model.proofs.Basics.{one_if_le}
 use Rattle.model.proofs.Owners.{Sound, reached_sound, held_cons}
-use Rattle.model.proofs.Covering.{tally, tally_add, tally_same, tally_none, cond_sum}
+use Rattle.model.proofs.Covering.{tally, tally_sum, tally_zero, tally_none}
+use Rattle.model.proofs.ExactExtents.{kinds_same}
+use Rattle.std.proofs.lemmas.Bool.Decides.{nat_tests}
 use Rattle.model.proofs.Entries.{before_head}
 use Rattle.model.proofs.Lowest.{Starts, starts, starts_one}
 
@@ -30,64 +31,37 @@ abbrev follows : Blocks → ℕ → ℕ
 follows free x = one_if (free x && pre free x)
 
 before_at_most : (s : ℕ) (rs : List Run) → length (run_before true s rs) ≤ suc (length rs)
-before_at_most s [] = omega arith
-before_at_most s (r ∷ rs) =
-    cond_both (eqb (suc s) r.start) (record { start = s; count = suc r.count } ∷ rs) (record { start = s; count = 1 } ∷ r ∷ rs) (λ x. length x ≤ suc (length (r ∷ rs)))
-    (λ _. omega arith) (λ _. omega arith)
+before_at_most s rs = grind (arith, nat_tests)
 
 before_joins : (s : ℕ) {rs : List Run} → Starts (suc s) 1 rs → length (run_before true s rs) ≡ length rs
-before_joins s (starts {r = r} {rs = rs} at le) =
-    cond_both (eqb (suc s) r.start) (record { start = s; count = suc r.count } ∷ rs) (record { start = s; count = 1 } ∷ r ∷ rs) (λ x. length x ≡ length (r ∷ rs))
-    (λ _. refl) (λ e. absurd (eqb-false (suc s) r.start e (sym at)))
-
-one_way : (p : Bool) → one_if (not p) + one_if p ≡ 1
-one_way true = refl
-one_way false = refl
+before_joins s (starts at le) = grind (arith, nat_tests)
 
 -- one block more in front
 runs_more : (free : Blocks) (s n : ℕ) (x y : Bool) → free s ≡ x → free (suc s) ≡ y → length (runs_from free (suc s) n) ≤ tally (opens free) (suc s) n + one_if (free (suc s) && free s) → length (run_before x s (runs_from free (suc s) n)) ≤ tally (opens free) (suc s) n + one_if x
-runs_more free s n false y xe ye ih = omega (arith, ap (λ z. one_if (free (suc s) && z)) xe ∙ ap one_if (and-false (free (suc s))))
-runs_more free s n true false xe ye ih = omega (arith, before_at_most s (runs_from free (suc s) n), ap (λ z. one_if (z && free s)) ye)
+runs_more free s n false y xe ye ih = grind arith
+runs_more free s n true false xe ye ih = grind (arith, before_at_most s (runs_from free (suc s) n))
 runs_more free s zero true true xe ye ih = omega arith
 runs_more free s (suc n) true true xe ye ih =
     let h : Starts (suc s) 1 (runs_from free (suc s) (suc n)) = rw ye (starts_one (suc s) (runs_from free (suc (suc s)) n)) in
     omega (arith, before_joins s h, one_if_le (free (suc s) && free s))
 
-parts_of : (x p : Bool) → one_if (x && not p) + one_if (x && p) ≡ one_if x
-parts_of true p = one_way p
-parts_of false p = refl
-
 runs_opens : (free : Blocks) (s n : ℕ) → length (runs_from free s n) ≤ tally (opens free) s n + follows free s
 runs_opens free s zero = omega arith
-runs_opens free s (suc n) = omega (arith, runs_more free s n (free s) (free (suc s)) refl refl (runs_opens free (suc s) n), parts_of (free s) (pre free s))
+runs_opens free s (suc n) = grind (arith, runs_more free s n (free s) (free (suc s)) refl refl (runs_opens free (suc s) n))
 
 -- extents that own blocks
 owning_cons : (e : Extent) (es : List Extent) → owning (e ∷ es) ≡ one_if (not (is_hole e.kind)) + owning es
 owning_cons e es = sum_by-cons (λ (x : Extent). cond (not (is_hole x.kind)) 1 0) e es
 
-same_hole : (k j : Kind) → same_kind k j ≡ true → is_hole k ≡ is_hole j
-same_hole Hole Hole e = refl
-same_hole Hole Reserved e = absurd (false≢true e)
-same_hole Hole Written e = absurd (false≢true e)
-same_hole Reserved Hole e = absurd (false≢true e)
-same_hole Reserved Reserved e = refl
-same_hole Reserved Written e = refl
-same_hole Written Hole e = absurd (false≢true e)
-same_hole Written Reserved e = refl
-same_hole Written Written e = refl
-
 owning_grows : (k : Kind) (b : ℕ) (es : List Extent) → owning es ≤ owning (before k b es)
 owning_grows k b [] = omega arith
 owning_grows k b (e ∷ es) =
-    cond_both (goes_on k b e.kind e.block) (record { kind = k; count = suc e.count; block = b } ∷ es) (record { kind = k; count = 1; block = b } ∷ e ∷ es) (λ x. owning (e ∷ es) ≤ owning x)
-    (λ q. let same = same_hole k e.kind (and_parts (same_kind k e.kind) _ q).0 in
-    omega (arith, owning_cons e es, owning_cons (record { kind = k; count = suc e.count; block = b }) es, ap (λ z. one_if (not z)) same))
+    cond_both (goes_on k b e.kind e.block) _ _ (λ x. owning (e ∷ es) ≤ owning x)
+    (λ q. grind (arith, owning_cons e es, owning_cons (record { kind = k; count = suc e.count; block = b }) es, kinds_same k e.kind))
     (λ _. omega (arith, owning_cons (record { kind = k; count = 1; block = b }) (e ∷ es)))
 
 owning_new : (k : Kind) (b : ℕ) (e : Extent) (es : List Extent) → is_hole k ≡ false → goes_on k b e.kind e.block ≡ false → owning (before k b (e ∷ es)) ≡ suc (owning (e ∷ es))
-owning_new k b e es solid apart =
-    ap owning (cond-false (goes_on k b e.kind e.block) (record { kind = k; count = suc e.count; block = b } ∷ es) (record { kind = k; count = 1; block = b } ∷ e ∷ es) apart)
-    ∙ omega (arith, owning_cons (record { kind = k; count = 1; block = b }) (e ∷ es), ap (λ z. one_if (not z)) solid)
+owning_new k b e es solid apart = rw apart (grind (arith, owning_cons (record { kind = k; count = 1; block = b }) (e ∷ es)))
 
 -- a place whose next block is free is the last of its extent
 module _ (free : Blocks) where
@@ -102,11 +76,7 @@ module _ (free : Blocks) where
       joined : goes_on q.kind q.block r.kind r.block ≡ true → ⊥
       joined meets =
           let both = and_parts (same_kind q.kind r.kind) (is_hole q.kind || eqb (suc q.block) r.block) meets in
-          let r_solid : is_hole r.kind ≡ false = sym (same_hole q.kind r.kind both.0) ∙ solid in
-          let next_is : eqb (suc q.block) r.block ≡ true = ⊎_elim (λ hole. absurd (false≢true (sym solid ∙ hole))) (λ e. e) (or_cases (is_hole q.kind) (eqb (suc q.block) r.block) both.1) in
-          let e = eqb-true (suc q.block) r.block next_is in
-          let on_it : one_if (on (suc q.block) r) ≡ 1 = rw r_solid (ap one_if (eq-eqb r.block (suc q.block) (sym e))) in
-          false≢true (sym (shut (suc q.block) (omega (arith, held_cons r rs (suc q.block), on_it))) ∙ next)
+          grind (arith, nat_tests, kinds_same q.kind r.kind both.0, both.1, held_cons r rs (suc q.block), shut (suc q.block))
 
   abbrev ends_here : Place → Bool
   ends_here q = not (is_hole q.kind) && free (suc q.block)
@@ -126,54 +96,32 @@ module _ (free : Blocks) where
   -- by blocks instead of by places
   one_le : (b s n : ℕ) → tally (λ x. cond (free (suc x)) (one_if (eqb b x)) 0) s n ≤ one_if (free (suc b))
   one_le b s zero = omega arith
-  one_le b s (suc n) =
-      ⊎_elim
-      (λ (same : b ≡ s).
-      let here : cond (free (suc s)) (one_if (eqb b s)) 0 ≡ one_if (free (suc b)) = rw (eq-eqb b s same, same) in
-      omega (arith, here, tally_none (λ x. free (suc x)) b (suc s) n (omega arith)))
-      (λ other.
-      let here : cond (free (suc s)) (one_if (eqb b s)) 0 ≡ 0 = cond_both (free (suc s)) (one_if (eqb b s)) 0 (λ y. y ≡ 0) (λ _. rw (ne_eqb b s other)) (λ _. refl) in
-      omega (arith, here, one_le b (suc s) n))
-      (cases_eq b s)
-
-  nothing_tallied : (s n : ℕ) → tally (λ x. cond (free (suc x)) 0 0) s n ≡ 0
-  nothing_tallied s zero = refl
-  nothing_tallied s (suc n) =
-      let here : ◌≡◌ {A = ℕ} (cond (free (suc s)) 0 0) 0 = cond_both {A = ℕ} (free (suc s)) 0 0 (λ y. y ≡ 0) (λ _. refl) (λ _. refl) in
-      omega (arith, here, nothing_tallied (suc s) n)
+  one_le b s (suc n) = grind (arith, nat_tests, tally_none (λ x. free (suc x)) b (suc s) n, one_le b (suc s) n)
 
   place_le : (q : Place) (n : ℕ) (hole : Bool) → is_hole q.kind ≡ hole → tally (λ x. cond (free (suc x)) (one_if (not hole && eqb q.block x)) 0) 0 n ≤ one_if (not hole && free (suc q.block))
-  place_le q n true e = omega (arith, nothing_tallied 0 n)
+  place_le q n true e = omega (arith, tally_zero (λ x. free (suc x)) 0 n)
   place_le q n false e = one_le q.block 0 n
 
   places_le : (n : ℕ) (ps : List Place) → tally (λ x. cond (free (suc x)) (held ps x) 0) 0 n ≤ count_by ends_here ps
-  places_le n [] = omega (arith, nothing_tallied 0 n)
+  places_le n [] = omega (arith, tally_zero (λ x. free (suc x)) 0 n)
   places_le n (q ∷ ps) =
-      let a = tally_same (λ x. cond (free (suc x)) (held (q ∷ ps) x) 0) (λ x. cond (free (suc x)) (one_if (on x q)) 0 + cond (free (suc x)) (held ps x) 0) 0 n (λ x. ap (λ y. cond (free (suc x)) y 0) (held_cons q ps x) ∙ cond_sum (free (suc x)) (one_if (on x q)) (held ps x)) in
-      let b = tally_add (λ x. cond (free (suc x)) (one_if (on x q)) 0) (λ x. cond (free (suc x)) (held ps x) 0) 0 n in
-      omega (arith, a, b, places_le n ps, place_le q n (is_hole q.kind) refl, sum_by-cons (λ x. cond (ends_here x) 1 0) q ps)
+      let sum = tally_sum (λ x. free (suc x)) (held (q ∷ ps)) (λ x. one_if (on x q)) (held ps) 0 n (held_cons q ps) in
+      omega (arith, sum, places_le n ps, place_le q n (is_hole q.kind) refl, sum_by-cons (λ x. cond (ends_here x) 1 0) q ps)
 
   files_le : (n : ℕ) (fs : List (List Place)) → ((b : ℕ) → 0 < sum_by (λ ps. held ps b) fs → free b ≡ false) → tally (λ x. cond (free (suc x)) (sum_by (λ ps. held ps x) fs) 0) 0 n ≤ sum_by (λ ps. owning (extents ps)) fs
-  files_le n [] shut = omega (arith, nothing_tallied 0 n)
+  files_le n [] shut = omega (arith, tally_zero (λ x. free (suc x)) 0 n)
   files_le n (ps ∷ fs) shut =
       let cons : (b : ℕ) → sum_by (λ qs. held qs b) (ps ∷ fs) ≡ held ps b + sum_by (λ qs. held qs b) fs = λ b. sum_by-cons (λ qs. held qs b) ps fs in
-      let a = tally_same (λ x. cond (free (suc x)) (sum_by (λ qs. held qs x) (ps ∷ fs)) 0) (λ x. cond (free (suc x)) (held ps x) 0 + cond (free (suc x)) (sum_by (λ qs. held qs x) fs) 0) 0 n (λ x. ap (λ y. cond (free (suc x)) y 0) (cons x) ∙ cond_sum (free (suc x)) (held ps x) (sum_by (λ qs. held qs x) fs)) in
-      let b = tally_add (λ x. cond (free (suc x)) (held ps x) 0) (λ x. cond (free (suc x)) (sum_by (λ qs. held qs x) fs) 0) 0 n in
-      omega (arith, a, b, places_le n ps, ends_le ps (λ x lt. shut x (omega (arith, cons x))), files_le n fs (λ x lt. shut x (omega (arith, cons x))), sum_by-cons (λ qs. owning (extents qs)) ps fs)
+      let sum = tally_sum (λ x. free (suc x)) (λ x. sum_by (λ qs. held qs x) (ps ∷ fs)) (held ps) (λ x. sum_by (λ qs. held qs x) fs) 0 n cons in
+      omega (arith, sum, places_le n ps, ends_le ps (λ x lt. shut x (omega (arith, cons x))), files_le n fs (λ x lt. shut x (omega (arith, cons x))), sum_by-cons (λ qs. owning (extents qs)) ps fs)
 
 -- each run but one at block 0 has an owned block before it
 is_shut : (x : Bool) (o t : ℕ) → o + one_if x ≡ t → t ≤ 1 → 0 < o → x ≡ false
-is_shut true o t e le lt = absurd (omega arith)
-is_shut false o t e le lt = refl
+is_shut x o t e le lt = grind arith
 
 opens_le : (free : Blocks) (owner : ℕ → ℕ) (v s n : ℕ) → s + n ≤ v → ((b : ℕ) → b < v → 1 ≤ owner b + one_if (free b)) → tally (opens free) (suc s) n ≤ tally (λ x. cond (free (suc x)) (owner x) 0) s n
 opens_le free owner v s zero le whole = omega arith
-opens_le free owner v s (suc n) le whole = omega (arith, one (free (suc s)) (free s) (owner s) (whole s (omega arith)), opens_le free owner v (suc s) n (omega arith) whole)
-  where
-    one : (x y : Bool) (o : ℕ) → 1 ≤ o + one_if y → one_if (x && not y) ≤ cond x o 0
-    one true true o lt = omega arith
-    one true false o lt = omega arith
-    one false y o lt = omega arith
+opens_le free owner v s (suc n) le whole = grind (arith, whole s, opens_le free owner v (suc s) n)
 
 few : (c : Config) (m : Model) → Sound c.volume m → length (free_runs c m) ≤ suc (owning_count m)
 few c m s = go c.volume s

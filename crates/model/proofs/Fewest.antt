@@ -1,11 +1,11 @@
 -- A split has the fewest pieces.
-use Rattle.std.proofs.Common.{◌≡◌, ℕ, zero, suc, ◌+◌, ◌-◌, ◌<◌, ◌≤◌, false, cond, not, eqb, leb, List, [], ◌∷◌, length, count_by, sym, refl, ap, ◌∙◌, subst, ⊎_elim, arith}
+use Rattle.std.proofs.Common.{◌≡◌, ℕ, zero, suc, ◌-◌, ◌<◌, ◌≤◌, false, cond, not, List, [], ◌∷◌, length, count_by, sym, refl, subst, arith}
 use Rattle.std.proofs.lemmas.List.Sums.{sum_by-cons, sum_by-append}
-use Rattle.std.proofs.lemmas.Bool.{eq-eqb, lt-ltb, le-leb, lt-leb, cond_both, cond-true, cond-false, cases_lt}
-use Rattle.model.specs.Space.{Blocks, times, Run, runs, total, most, longest, others, split_up_to, split, whole, row, blocks_of}
-use Rattle.model.specs.Ownership.{one_if}
+use Rattle.std.proofs.lemmas.Bool.{le-leb}
+use Rattle.std.proofs.lemmas.Bool.Decides.{nat_tests}
+use Rattle.model.specs.Space.{Blocks, times, Run, runs, total, most, others, split_up_to, split, whole, row, blocks_of}
 use Rattle.model.specs.Pieces.{Choice, preceded, pieces, LowestRow, Fewest}
-use Rattle.model.proofs.Choosing.{times_cons, times_append, longest_count, split_total}
+use Rattle.model.proofs.Choosing.{some_run, times_cons, times_append, longest_count, split_total}
 use Rattle.model.proofs.Owners.{split_free, split_long}
 use Rattle.model.proofs.Covering.{Sub, sub_total, split_fewest, covered}
 use Rattle.model.proofs.Rows.{whole_lowest}
@@ -16,18 +16,16 @@ module _ (ds : List ℕ) where
   row_none : (s l : ℕ) → 0 < times ds s → ((x : ℕ) → times (row (suc s) l) x ≤ times ds x) → count_by (λ b. not (preceded ds b)) (row (suc s) l) ≡ 0
   row_none s zero some within = refl
   row_none s (suc l) some within =
-      let here : one_if (not (preceded ds (suc s))) ≡ 0 = rw (lt-ltb 0 (times ds s) some) in
-      let one : one_if (eqb (suc s) (suc s)) ≡ 1 = ap one_if (eq-eqb (suc s) (suc s) refl) in
-      let rest = row_none (suc s) l (omega (arith, within (suc s), times_cons (suc s) (row (suc (suc s)) l) (suc s), one)) (λ x. omega (arith, within x, times_cons (suc s) (row (suc (suc s)) l) x)) in
-      sum_by-cons (λ b. cond (not (preceded ds b)) 1 0) (suc s) (row (suc (suc s)) l) ∙ omega (arith, here, rest)
+      let parts = times_cons (suc s) (row (suc (suc s)) l) in
+      let rest = row_none (suc s) l (grind (arith, nat_tests, within (suc s), parts (suc s))) (λ x. omega (arith, within x, parts x)) in
+      grind (arith, nat_tests, sum_by-cons (λ b. cond (not (preceded ds b)) 1 0) (suc s) (row (suc (suc s)) l), rest)
 
   row_one : (s l : ℕ) → ((x : ℕ) → times (row s l) x ≤ times ds x) → count_by (λ b. not (preceded ds b)) (row s l) ≤ 1
   row_one s zero within = omega arith
   row_one s (suc l) within =
-      let one : one_if (eqb s s) ≡ 1 = ap one_if (eq-eqb s s refl) in
-      let rest = row_none s l (omega (arith, within s, times_cons s (row (suc s) l) s, one)) (λ x. omega (arith, within x, times_cons s (row (suc s) l) x)) in
-      let here : one_if (not (preceded ds s)) ≤ 1 = cond_both (not (preceded ds s)) 1 0 (λ y. y ≤ 1) (λ _. omega arith) (λ _. omega arith) in
-      omega (arith, sum_by-cons (λ b. cond (not (preceded ds b)) 1 0) s (row (suc s) l), here, rest)
+      let parts = times_cons s (row (suc s) l) in
+      let rest = row_none s l (grind (arith, nat_tests, within s, parts s)) (λ x. omega (arith, within x, parts x)) in
+      grind (arith, sum_by-cons (λ b. cond (not (preceded ds b)) 1 0) s (row (suc s) l), rest)
 
   rows_le : (qs : List Run) → ((x : ℕ) → times (blocks_of qs) x ≤ times ds x) → count_by (λ b. not (preceded ds b)) (blocks_of qs) ≤ length qs
   rows_le [] within = omega arith
@@ -36,28 +34,15 @@ module _ (ds : List ℕ) where
       omega (arith, sum_by-append (λ b. cond (not (preceded ds b)) 1 0) r (blocks_of qs), row_one q.start q.count (λ x. omega (arith, within x, times_append r (blocks_of qs) x)), rows_le qs (λ x. omega (arith, within x, times_append r (blocks_of qs) x)))
 
 -- a split in one piece is the whole
-no_total : (rs : List Run) → length rs ≡ 0 → total rs ≡ 0
-no_total [] e = refl
-no_total (r ∷ rs) e = absurd (omega arith)
-
 split_one : (n : ℕ) (rs : List Run) → 0 < n → n ≤ total rs → length (split n rs) ≡ 1 → n ≤ most rs
 split_one n [] pos fits one = absurd (omega arith)
 split_one n (r ∷ rs) pos fits one =
-    ⊎_elim
-    (λ lt.
     let rest = split_up_to (length rs) (n - most (r ∷ rs)) (others (r ∷ rs)) in
-    let more : split n (r ∷ rs) ≡ longest (r ∷ rs) ∷ rest = cond-false (leb n (most (r ∷ rs))) _ _ (lt-leb n (most (r ∷ rs)) lt) in
-    let all : total (split n (r ∷ rs)) ≡ n = split_total (length (r ∷ rs)) n (r ∷ rs) (omega arith) fits in
-    let short : suc (length rest) ≡ 1 = sym (ap length more) ∙ one in
-    let none_left = no_total rest (omega (arith, short)) in
-    let parts : (longest (r ∷ rs)).count + total rest ≡ n = sym (ap total more) ∙ all in
-    absurd (omega (arith, longest_count (r ∷ rs), parts, none_left, lt)))
-    (λ le. le)
-    (cases_lt (most (r ∷ rs)) n)
+    grind (arith, nat_tests, split_total (length (r ∷ rs)) n (r ∷ rs), some_run rest, longest_count (r ∷ rs))
 
 split_is_whole : (n : ℕ) (rs : List Run) → 0 < n → n ≤ most rs → split n rs ≡ whole n rs
 split_is_whole n [] pos le = absurd (omega arith)
-split_is_whole n (r ∷ rs) pos le = cond-true (leb n (most (r ∷ rs))) _ _ (le-leb n (most (r ∷ rs)) le)
+split_is_whole n (r ∷ rs) pos le = rw (le-leb n (most (r ∷ rs)) le)
 
 most_total : (rs : List Run) → most rs ≤ total rs
 most_total [] = omega arith

@@ -1,10 +1,10 @@
 -- Limits: what every run keeps within.
-use Rattle.std.proofs.Common.{◌≡◌, ℕ, zero, suc, ◌+◌, ◌-◌, ◌<◌, ◌≤◌, true, false, cond, ◌&&◌, ltb, leb, List, [], ◌∷◌, length, get_or, take, drop, set, replicate, None, sym, refl, ap, ◌∙◌, subst, ⊎_elim, arith, length-set}
+use Rattle.std.proofs.Common.{◌≡◌, ℕ, zero, suc, ◌+◌, ◌-◌, ◌<◌, ◌≤◌, true, false, cond, ltb, List, [], ◌∷◌, length, get_or, take, drop, set, replicate, None, refl, ◌∙◌, ⊎_elim, arith, length-set}
 use Rattle.std.proofs.lemmas.List.Sums.{sum_by-set}
-use Rattle.std.proofs.lemmas.List.{get_or-set_same, get_or-set_other, get_or-drop}
-use Rattle.std.proofs.lemmas.Bool.{ltb-false, leb-false, eqb-true, and_parts, not-false, false≢true, cond_both, cases_eq, cases_lt}
+use Rattle.std.proofs.lemmas.List.{places, get_or-set_same, get_or-set_other, get_or-drop}
+use Rattle.std.proofs.lemmas.Bool.{ltb-false, leb-false, eqb-true, and_parts, not-false, cases_eq, cases_lt}
 use Rattle.calls.specs.declared.kind.Kind.{Kind}
-use Rattle.calls.specs.declared.kind.Kind.TheVariants.{Hole, Reserved, Written}
+use Rattle.calls.specs.declared.kind.Kind.TheVariants.{Written}
 use Rattle.calls.specs.declared.call.Call.{Call}
 use Rattle.calls.specs.declared.call.Call.TheVariants.{Insert, Collapse, Punch, ReserveWhole, ReserveSplit, Write, Read, Find, Length, Tally, Map, Drop}
 use Rattle.model.specs.Places.{Place, hole, zeros, is_hole, is_reserved, all_holes, range, inserted, collapsed, punched, laid, reserved}
@@ -17,9 +17,9 @@ use Rattle.model.specs.Replay.{Request, run}
 use Rattle.model.specs.Limits.{TidyAs, Tidy, Within, LimitsKept}
 use Rattle.model.proofs.Basics.{positive}
 use Rattle.model.proofs.Settled.{step_both, clear}
-use Rattle.model.proofs.Choosing.{fit_count, split_total}
+use Rattle.model.proofs.Choosing.{some_run, fit_count, split_total}
 use Rattle.model.proofs.Owners.{whole_long, split_long}
-use Rattle.model.proofs.Changing.{front, behind, inserted_at, collapsed_at, punched_at, length_inserted, length_collapsed, length_punched, length_reserved}
+use Rattle.model.proofs.Changing.{inserted_at, collapsed_at, punched_at, length_inserted, length_collapsed, length_punched, length_reserved}
 use Rattle.model.proofs.Entries.{ext, inserted_ext, collapsed_ext, punched_ext, reserved_ext, set_ext, set_same}
 
 hole_tidy : Tidy hole
@@ -27,9 +27,7 @@ hole_tidy = (refl, refl)
 
 -- blocks laid on holes
 laid_one : (p : Place) (b : ℕ) (k : Kind) → p.kind ≡ k → is_hole k ≡ true → TidyAs k p → p.bytes ≡ zeros
-laid_one p b Hole e h t = t.1
-laid_one p b Reserved e h t = t
-laid_one p b Written e h t = absurd (false≢true h)
+laid_one p b k e h t = grind arith
 
 laid_tidy : (bs : List ℕ) (ps : List Place) → all_holes (take (length bs) ps) ≡ true → ((k : ℕ) → Tidy (get_or ps k hole)) → (k : ℕ) → Tidy (get_or (laid bs ps) k hole)
 laid_tidy [] ps holes all k = all k
@@ -41,17 +39,19 @@ module _ {c : Config} {m : Model} (w : Within c m) (f : ℕ) (lt : f < file_coun
   inside : f < length m.files
   inside = omega (arith, w.files)
 
+  -- what holds of the new list and of an old file holds of that file with the list put in
+  either : (P : List Place → Type 0) (ps : List Place) (g : ℕ) → P ps → P (file m g) → P (get_or (set m.files f ps) g [])
+  either P ps g new old =
+      ⊎_elim
+      (λ (same : g ≡ f). rw (same, get_or-set_same m.files f ps [] inside) new)
+      (λ other. rw (get_or-set_other m.files f g ps [] other) old)
+      (cases_eq g f)
+
   pub changed : (ps : List Place) (free : Blocks) → length ps ≤ most_places → ext ps + extent_count m ≤ ext (file m f) + c.entries → ((k : ℕ) → Tidy (get_or ps k hole)) → Within c (with_file m f ps free)
   changed ps free short few all = record {
     files = length-set m.files f ps ∙ w.files;
-    places = λ g. ⊎_elim
-        (λ (same : g ≡ f). rw (same, get_or-set_same m.files f ps [] inside) short)
-        (λ other. rw (get_or-set_other m.files f g ps [] other) (w.places g))
-        (cases_eq g f);
-    tidy = λ g k. ⊎_elim
-        (λ (same : g ≡ f). subst (λ l. Tidy (get_or l k hole)) (sym (ap (λ h. get_or (set m.files f ps) h []) same ∙ get_or-set_same m.files f ps [] inside)) (all k))
-        (λ other. subst (λ l. Tidy (get_or l k hole)) (sym (get_or-set_other m.files f g ps [] other)) (w.tidy g k))
-        (cases_eq g f);
+    places = λ g. either (λ qs. length qs ≤ most_places) ps g short (w.places g);
+    tidy = λ g k. either (λ qs. Tidy (get_or qs k hole)) ps g (all k) (w.tidy g k);
     entries = omega (arith, sum_by-set (λ qs. length (extents qs)) m.files f ps [] inside, few);
   }
 
@@ -62,17 +62,17 @@ module _ {c : Config} {m : Model} (w : Within c m) (f : ℕ) (lt : f < file_coun
   insert_within : (at n : ℕ) → at ≤ length (file m f) → length (file m f) + n ≤ most_places → ltb (spare c m) (cut (file m f) at + 1) ≡ false → Within c (insert m f at n)
   insert_within at n le short e =
       changed (inserted (file m f) at n) m.free (omega (arith, length_inserted (file m f) at n le)) (omega (arith, inserted_ext (file m f) at n, room _ e))
-      (λ k. subst Tidy (sym (inserted_at (file m f) at n k le)) (cond_both (ltb k at) _ _ Tidy (λ _. w.tidy f k) (λ _. cond_both (ltb k (at + n)) _ _ Tidy (λ _. hole_tidy) (λ _. w.tidy f (k - n)))))
+      (λ k. rw (inserted_at (file m f) at n k le) (grind (arith, hole_tidy, w.tidy f k, w.tidy f (k - n))))
 
   collapse_within : (at n : ℕ) → 0 < n → at + n ≤ length (file m f) → ltb (spare c m) (both_cuts m f at n) ≡ false → Within c (collapse m f at n)
   collapse_within at n pos le e =
       changed (collapsed (file m f) at n) (collapse m f at n).free (omega (arith, length_collapsed (file m f) at n le, w.places f)) (omega (arith, collapsed_ext (file m f) at n pos, room _ e))
-      (λ k. subst Tidy (sym (collapsed_at (file m f) at n k le)) (cond_both (ltb k at) _ _ Tidy (λ _. w.tidy f k) (λ _. w.tidy f (k + n))))
+      (λ k. rw (collapsed_at (file m f) at n k le) (grind (arith, w.tidy f k, w.tidy f (k + n))))
 
   punch_within : (at n : ℕ) → 0 < n → at + n ≤ length (file m f) → ltb (spare c m) (both_cuts m f at n) ≡ false → Within c (punch m f at n)
   punch_within at n pos le e =
       changed (punched (file m f) at n) (punch m f at n).free (omega (arith, length_punched (file m f) at n le, w.places f)) (omega (arith, punched_ext (file m f) at n pos le, room _ e))
-      (λ k. subst Tidy (sym (punched_at (file m f) at n k le)) (cond_both (leb at k && ltb k (at + n)) _ _ Tidy (λ _. hole_tidy) (λ _. w.tidy f k)))
+      (λ k. rw (punched_at (file m f) at n k le) (grind (arith, hole_tidy, w.tidy f k)))
 
   reserve_within : (at n : ℕ) (qs : List Run) → 0 < n → at + n ≤ length (file m f) → total qs ≡ n → length (blocks_of qs) ≡ n → all_holes (range (file m f) at n) ≡ true → 0 < length qs → ltb (spare c m) (both_cuts m f at n + length qs - 1) ≡ false → Within c (reserve m f at (blocks_of qs))
   reserve_within at n qs pos le all long holes some e =
@@ -81,8 +81,10 @@ module _ {c : Config} {m : Model} (w : Within c m) (f : ℕ) (lt : f < file_coun
       let le' : at ≤ length ps = omega arith in
       changed (reserved ps at bs) (reserve m f at bs).free (omega (arith, length_reserved ps at bs le', w.places f)) (omega (arith, reserved_ext ps at n qs all pos le, room _ e))
       (λ k. ⊎_elim
-      (λ under. subst Tidy (sym (front ps at 0 (laid bs (drop at ps)) k le' under)) (w.tidy f k))
-      (λ over. subst Tidy (sym (behind ps at 0 (laid bs (drop at ps)) k le' over)) (laid_tidy bs (drop at ps) (subst (λ j. all_holes (take j (drop at ps)) ≡ true) (sym long) holes) (λ j. subst Tidy (sym (get_or-drop at ps j hole)) (w.tidy f (at + j))) (k - at)))
+      (λ under. let same : get_or (reserved ps at bs) k hole ≡ get_or ps k hole = grind (arith, places) in rw same (w.tidy f k))
+      (λ over.
+      let same : get_or (reserved ps at bs) k hole ≡ get_or (laid bs (drop at ps)) (k - at) hole = grind (arith, places) in
+      rw same (laid_tidy bs (drop at ps) (rw long holes) (λ j. rw (get_or-drop at ps j hole) (w.tidy f (at + j))) (k - at)))
       (cases_lt k at))
 
   write_within : (at : ℕ) (bytes : List ℕ) → at < length (file m f) → length bytes ≡ block_size → is_hole (place m f at).kind ≡ false → ltb (spare c m) (cond (is_reserved (place m f at).kind) (both_cuts m f at 1) 0) ≡ false → Within c (write m f at bytes)
@@ -90,17 +92,15 @@ module _ {c : Config} {m : Model} (w : Within c m) (f : ℕ) (lt : f < file_coun
       let ps = file m f in
       changed (set ps at p) m.free (omega (arith, length-set ps at p, w.places f)) (few (place m f at).kind refl solid e)
       (λ k. ⊎_elim
-      (λ (same : k ≡ at). subst Tidy (sym (ap (λ j. get_or (set ps at p) j hole) same ∙ get_or-set_same ps at p hole under)) full)
-      (λ other. subst Tidy (sym (get_or-set_other ps at k p hole other)) (w.tidy f k))
+      (λ (same : k ≡ at). rw (same, get_or-set_same ps at p hole under) full)
+      (λ other. rw (get_or-set_other ps at k p hole other) (w.tidy f k))
       (cases_eq k at))
     where
       p : Place
       p = record { kind = Written; block = (place m f at).block; bytes = bytes }
 
       few : (k : Kind) → (place m f at).kind ≡ k → is_hole k ≡ false → ltb (spare c m) (cond (is_reserved k) (both_cuts m f at 1) 0) ≡ false → ext (set (file m f) at p) + extent_count m ≤ ext (file m f) + c.entries
-      few Hole is h s = absurd (false≢true (sym h))
-      few Reserved is h s = omega (arith, set_ext (file m f) at p under, room _ s)
-      few Written is h s = omega (arith, ap length (set_same (file m f) at p under (sym is) refl), w.entries)
+      few k is h s = grind (arith, set_ext (file m f) at p under, room (both_cuts m f at 1), set_same (file m f) at p under, w.entries)
 
   drop_within : Within c (empty m f)
   drop_within = changed [] (empty m f).free (omega arith) (omega (arith, w.entries)) (λ k. hole_tidy)
@@ -118,23 +118,18 @@ granted_within c m w (Punch f at n) bytes e =
 granted_within c m w (ReserveWhole f at n) bytes e =
     let ok = clear (reasons c m (ReserveWhole f at n) bytes) e in
     let fits : n ≤ most (free_runs c m) = ltb-false _ _ ok.1.1.1.1.0 in
-    let same : both_cuts m f at n ≡ both_cuts m f at n + 1 - 1 = omega arith in
     let qs = whole n (free_runs c m) in
     let all : total qs ≡ n = omega (arith, fit_count n (free_runs c m) fits) in
     reserve_within w f (leb-false _ _ ok.0) at n qs (positive n ok.1.0) (ltb-false _ _ ok.1.1.0) all (whole_long (free_runs c m) n fits) (not-false _ ok.1.1.1.0) (omega arith)
-    (subst (λ j. ltb (spare c m) j ≡ false) same ok.1.1.1.1.1.0)
+    (rw (let same : both_cuts m f at n + 1 - 1 ≡ both_cuts m f at n = omega arith in same) ok.1.1.1.1.1.0)
 granted_within c m w (ReserveSplit f at n) bytes e =
     let ok = clear (reasons c m (ReserveSplit f at n) bytes) e in
     let fits : n ≤ total (free_runs c m) = ltb-false _ _ ok.1.1.1.1.0 in
     let qs = split n (free_runs c m) in
     let all : total qs ≡ n = split_total (length (free_runs c m)) n (free_runs c m) (omega arith) fits in
     let pos = positive n ok.1.0 in
-    reserve_within w f (leb-false _ _ ok.0) at n qs pos (ltb-false _ _ ok.1.1.0) all (split_long (free_runs c m) n fits) (not-false _ ok.1.1.1.0) (some qs (omega (arith, all, pos)))
+    reserve_within w f (leb-false _ _ ok.0) at n qs pos (ltb-false _ _ ok.1.1.0) all (split_long (free_runs c m) n fits) (not-false _ ok.1.1.1.0) (some_run qs (omega (arith, all, pos)))
     ok.1.1.1.1.1.1.0
-  where
-    some : (qs : List Run) → 0 < total qs → 0 < length qs
-    some [] lt = absurd (omega arith)
-    some (q ∷ qs) lt = omega arith
 granted_within c m w (Write f at) bytes e =
     let ok = clear (reasons c m (Write f at) bytes) e in
     write_within w f (leb-false _ _ ok.0) at bytes (leb-false _ _ ok.1.0) (eqb-true _ _ (not-false _ ok.1.1.0)) ok.1.1.1.0 ok.1.1.1.1.0

@@ -1,6 +1,7 @@
 -- The lowest run that fits.
-use Rattle.std.proofs.Common.{◌≡◌, ℕ, zero, suc, ◌+◌, ◌≤◌, Bool, true, false, eqb, leb, List, [], ◌∷◌, sym, refl, ap, ◌∙◌, subst, ⊎_elim, arith}
-use Rattle.std.proofs.lemmas.Bool.{leb-false, eqb-false, le-leb, lt-leb, cond_both, cases_eq}
+use Rattle.std.proofs.Common.{◌≡◌, ℕ, zero, suc, ◌+◌, ◌≤◌, Bool, true, eqb, List, [], ◌∷◌, sym, refl, subst, ⊎_elim, arith}
+use Rattle.std.proofs.lemmas.Bool.Decides.{nat_tests}
+use Rattle.std.proofs.lemmas.Bool.{eq-eqb, cond_both, cases_eq}
 use Rattle.model.specs.Space.{Blocks, Run, run_before, runs_from, most, lowest_fit}
 use Rattle.model.specs.Pieces.{AllFree}
 
@@ -10,24 +11,17 @@ pub data Starts (s n : ℕ) : List Run → Type 0 where
 
 pub starts_one : (s : ℕ) (rs : List Run) → Starts s 1 (run_before true s rs)
 starts_one s [] = starts refl (omega arith)
-starts_one s (r ∷ rs) =
-    cond_both (eqb (suc s) r.start) (record { start = s; count = suc r.count } ∷ rs) (record { start = s; count = 1 } ∷ r ∷ rs) (λ os. Starts s 1 os)
-    (λ e. starts refl (omega arith)) (λ e. starts refl (omega arith))
+starts_one s (r ∷ rs) = cond_both (eqb (suc s) r.start) _ _ (λ os. Starts s 1 os) (λ _. starts refl (omega arith)) (λ _. starts refl (omega arith))
 
 starts_more : (s n : ℕ) {rs : List Run} → Starts (suc s) n rs → Starts s (suc n) (run_before true s rs)
-starts_more s n (starts {r = r} {rs = rs} at le) =
-    cond_both (eqb (suc s) r.start) (record { start = s; count = suc r.count } ∷ rs) (record { start = s; count = 1 } ∷ r ∷ rs) (λ os. Starts s (suc n) os)
-    (λ e. starts refl (omega arith)) (λ e. absurd (eqb-false (suc s) r.start e (sym at)))
+starts_more s n (starts {r = r} {rs = rs} at le) = rw (eq-eqb (suc s) r.start (sym at)) (starts {r = record { start = s; count = suc r.count }} refl (omega arith))
 
 all_starts : (free : Blocks) (n s w : ℕ) → suc n ≤ w → AllFree free s (suc n) → Starts s (suc n) (runs_from free s w)
 all_starts free n s zero le all = absurd (omega arith)
-all_starts free zero s (suc w) le all =
-    let here : free s ≡ true = ap free (let i : s ≡ s + 0 = omega arith in i) ∙ all 0 (omega arith) in
-    rw here (starts_one s (runs_from free (suc s) w))
+all_starts free zero s (suc w) le all = let here : free s ≡ true = grind (arith, all 0) in rw here (starts_one s (runs_from free (suc s) w))
 all_starts free (suc n) s (suc w) le all =
-    let here : free s ≡ true = ap free (let i : s ≡ s + 0 = omega arith in i) ∙ all 0 (omega arith) in
-    let rest = all_starts free n (suc s) w (omega arith) (λ i lt. ap free (let j : suc s + i ≡ s + suc i = omega arith in j) ∙ all (suc i) (omega arith)) in
-    rw here (starts_more s (suc n) rest)
+    let here : free s ≡ true = grind (arith, all 0) in
+    rw here (starts_more s (suc n) (all_starts free n (suc s) w (omega arith) (λ i lt. grind (arith, all (suc i)))))
 
 -- there is a fit, and the lowest starts at b or below
 pub record Fits (n b : ℕ) (rs : List Run) : Type 0 where
@@ -35,26 +29,10 @@ pub record Fits (n b : ℕ) (rs : List Run) : Type 0 where
   pub low : (lowest_fit n rs).start ≤ b
 
 starts_fits : (s n : ℕ) {rs : List Run} → Starts s n rs → Fits n s rs
-starts_fits s n (starts {r = r} {rs = rs} at le) = record { room = omega arith; low = rw (le-leb n r.count le) (omega arith) }
+starts_fits s n (starts at le) = grind (arith, nat_tests)
 
 fits_before : (x : Bool) (s b n : ℕ) (rs : List Run) → s ≤ b → Fits n b rs → Fits n b (run_before x s rs)
-fits_before false s b n rs le f = f
-fits_before true s b n [] le f =
-    record {
-      room = omega (arith, f.room);
-      low = cond_both (leb n 1) (record { start = s; count = n }) (record { start = 0; count = 0 }) (λ (r : Run). r.start ≤ b) (λ _. le) (λ _. omega arith);
-    }
-fits_before true s b n (r ∷ rs) le f =
-    cond_both (eqb (suc s) r.start) (record { start = s; count = suc r.count } ∷ rs) (record { start = s; count = 1 } ∷ r ∷ rs) (λ os. Fits n b os)
-    (λ e. record {
-      room = omega (arith, f.room);
-      low = cond_both (leb n (suc r.count)) (record { start = s; count = n }) (lowest_fit n rs) (λ (q : Run). q.start ≤ b) (λ _. le)
-          (λ e'. let lt = leb-false n (suc r.count) e' in rw (lt-leb n r.count (omega arith)) at f.low);
-    })
-    (λ e. record {
-      room = omega (arith, f.room);
-      low = cond_both (leb n 1) (record { start = s; count = n }) (lowest_fit n (r ∷ rs)) (λ (q : Run). q.start ≤ b) (λ _. le) (λ _. f.low);
-    })
+fits_before x s b n rs le f = grind (arith, nat_tests)
 
 pub fits_from : (free : Blocks) (n b s w : ℕ) → s ≤ b → b + suc n ≤ s + w → AllFree free b (suc n) → Fits (suc n) b (runs_from free s w)
 fits_from free n b s zero le fit all = absurd (omega arith)

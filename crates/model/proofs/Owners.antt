@@ -1,9 +1,9 @@
 -- One owner: each block is free, or in one place of one file.
-use Rattle.std.proofs.Common.{◌≡◌, ℕ, zero, suc, ◌+◌, ◌<◌, ◌≤◌, Bool, true, false, cond, not, ◌&&◌, ◌||◌, eqb, ltb, List, [], ◌∷◌, ◌++◌, length, take, drop, set, replicate, None, refl, ap, ◌∙◌, arith, length-drop, length-set}
+use Rattle.std.proofs.Common.{◌≡◌, ℕ, zero, suc, ◌+◌, ◌<◌, ◌≤◌, Bool, true, false, cond, ◌||◌, ltb, List, [], ◌∷◌, ◌++◌, length, take, drop, set, replicate, None, refl, ap, ◌∙◌, arith, length-drop, length-set}
 use Rattle.std.proofs.lemmas.List.Folds.{sum_by-replicate}
 use Rattle.std.proofs.lemmas.List.Sums.{sum_by-cons, sum_by-append, sum_by-set, sum_by-take-drop, get_or-le-sum_by}
-use Rattle.std.proofs.lemmas.Bool.{le-ltb, ltb-false, leb-false, and_parts, not-false}
-use Rattle.calls.specs.declared.kind.Kind.{Kind}
+use Rattle.std.proofs.lemmas.Bool.{le-ltb, ltb-false, leb-false, not-false}
+use Rattle.std.proofs.lemmas.Bool.Decides.{nat_tests}
 use Rattle.calls.specs.declared.kind.Kind.TheVariants.{Reserved, Written}
 use Rattle.calls.specs.declared.call.Call.{Call}
 use Rattle.calls.specs.declared.call.Call.TheVariants.{Insert, Collapse, Punch, ReserveWhole, ReserveSplit, Write, Read, Find, Length, Tally, Map, Drop}
@@ -33,21 +33,13 @@ held_cut at ps b = sum_by-take-drop (λ q. cond (on b q) 1 0) ps at
 
 -- the sets of free blocks
 freed_one : (x : Bool) (h : ℕ) → h + one_if x ≤ 1 → one_if (x || ltb 0 h) ≡ one_if x + h
-freed_one true h le = omega arith
-freed_one false zero le = refl
-freed_one false (suc zero) le = refl
-freed_one false (suc (suc h)) le = absurd (omega arith)
+freed_one x h le = grind (arith, nat_tests)
 
 -- laid blocks
-hole_on : (k : Kind) (block b : ℕ) → is_hole k ≡ true → one_if (not (is_hole k) && eqb block b) ≡ 0
-hole_on k block b e = rw e
-
 pub held_laid : (bs : List ℕ) (ps : List Place) (b : ℕ) → length bs ≤ length ps → all_holes (take (length bs) ps) ≡ true → held (laid bs ps) b ≡ times bs b + held ps b
 held_laid [] ps b le e = omega arith
 held_laid (x ∷ bs) [] b le e = absurd (omega arith)
-held_laid (x ∷ bs) (p ∷ ps) b le e =
-    let parts = and_parts (is_hole p.kind) (all_holes (take (length bs) ps)) e in
-    omega (arith, held_cons (record { kind = Reserved; block = x; bytes = p.bytes }) (laid bs ps) b, held_cons p ps b, hole_on p.kind p.block b parts.0, held_laid bs ps b (omega arith) parts.1, times_cons x bs b)
+held_laid (x ∷ bs) (p ∷ ps) b le e = grind (arith, held_cons (record { kind = Reserved; block = x; bytes = p.bytes }) (laid bs ps) b, held_cons p ps b, held_laid bs ps b, times_cons x bs b)
 
 -- what a run of calls keeps
 pub record Sound (v : ℕ) (m : Model) : Type 0 where
@@ -73,26 +65,23 @@ module _ {v : ℕ} {m : Model} (s : Sound v m) (f : ℕ) (lt : f < file_count) w
   parts at n b = omega (arith, held_cut at (file m f) b, held_cut n (drop at (file m f)) b)
 
   pub insert_sound : (at n : ℕ) → Sound v (insert m f at n)
-  insert_sound at n = kept (inserted (file m f) at n) m.free (λ b.
-      omega (arith, held_append (take at (file m f)) (replicate n hole ++ drop at (file m f)) b, held_append (replicate n hole) (drop at (file m f)) b, held_holes n b, held_cut at (file m f) b))
+  insert_sound at n = kept (inserted (file m f) at n) m.free (λ b. omega (arith, held_append, held_holes, held_cut at (file m f) b))
 
   freed_parts : (at n b : ℕ) → one_if (freed m.free (range (file m f) at n) b) ≡ one_if (m.free b) + held (range (file m f) at n) b
   freed_parts at n b = freed_one (m.free b) (held (range (file m f) at n) b) (omega (arith, parts at n b, held_le b))
 
   pub collapse_sound : (at n : ℕ) → Sound v (collapse m f at n)
-  collapse_sound at n = kept (collapsed (file m f) at n) (freed m.free (range (file m f) at n)) (λ b.
-      omega (arith, held_append (take at (file m f)) (drop n (drop at (file m f))) b, parts at n b, freed_parts at n b))
+  collapse_sound at n = kept (collapsed (file m f) at n) (freed m.free (range (file m f) at n)) (λ b. omega (arith, held_append, parts at n b, freed_parts at n b))
 
   pub punch_sound : (at n : ℕ) → Sound v (punch m f at n)
-  punch_sound at n = kept (punched (file m f) at n) (freed m.free (range (file m f) at n)) (λ b.
-      omega (arith, held_append (take at (file m f)) (replicate n hole ++ drop n (drop at (file m f))) b, held_append (replicate n hole) (drop n (drop at (file m f))) b, held_holes n b, parts at n b, freed_parts at n b))
+  punch_sound at n = kept (punched (file m f) at n) (freed m.free (range (file m f) at n)) (λ b. omega (arith, held_append, held_holes, parts at n b, freed_parts at n b))
 
   pub empty_sound : Sound v (empty m f)
   empty_sound = kept [] (freed m.free (file m f)) (λ b. omega (arith, freed_one (m.free b) (held (file m f) b) (held_le b)))
 
   pub reserve_sound : (at : ℕ) (bs : List ℕ) → at + length bs ≤ length (file m f) → all_holes (range (file m f) at (length bs)) ≡ true → ((b : ℕ) → times bs b ≤ one_if (m.free b)) → Sound v (reserve m f at bs)
   reserve_sound at bs fits holes free = kept (reserved (file m f) at bs) (without m.free bs) (λ b.
-      omega (arith, held_append (take at (file m f)) (laid bs (drop at (file m f))) b, held_cut at (file m f) b, without_one (m.free b) (times bs b) (free b), held_laid bs (drop at (file m f)) b (omega (arith, length-drop at (file m f))) holes))
+      omega (arith, held_append, held_cut at (file m f) b, without_one (m.free b) (times bs b) (free b), held_laid bs (drop at (file m f)) b (omega (arith, length-drop at (file m f))) holes))
 
   pub write_sound : (at : ℕ) (bytes : List ℕ) → at < length (file m f) → is_hole (place m f at).kind ≡ false → Sound v (write m f at bytes)
   write_sound at bytes lt' solid =

@@ -1,7 +1,7 @@
 -- Rows of free blocks and the runs that they lie in.
-use Rattle.std.proofs.Common.{◌≡◌, ℕ, zero, suc, ◌+◌, ◌<◌, ◌≤◌, max, true, false, ltb, leb, List, [], ◌∷◌, sym, refl, ap, ◌∙◌, subst, ⊎_elim, arith}
+use Rattle.std.proofs.Common.{◌≡◌, ℕ, zero, suc, ◌+◌, ◌<◌, ◌≤◌, true, false, List, [], ◌∷◌, refl, ap, ◌∙◌, subst, arith}
 use Rattle.std.proofs.lemmas.List.{append-nil}
-use Rattle.std.proofs.lemmas.Bool.{ltb-true, ltb-false, eq-eqb, le-leb, lt-leb, cond_both, cond-true, cond-false, cases_lt, false≢true}
+use Rattle.std.proofs.lemmas.Bool.Decides.{nat_tests}
 use Rattle.model.specs.Space.{Blocks, times, Run, runs, most, longest, lowest_fit, whole, row, blocks_of}
 use Rattle.model.specs.Ownership.{one_if}
 use Rattle.model.specs.Pieces.{AllFree, LowestRow, LongestRow}
@@ -14,8 +14,8 @@ use Rattle.model.proofs.ExactRuns.{runs_exact}
 
 row_has : (s n i : ℕ) → i < n → 0 < times (row s n) (s + i)
 row_has s zero i lt = absurd (omega arith)
-row_has s (suc n) zero lt = omega (arith, times_cons s (row (suc s) n) (s + 0), ap one_if (eq-eqb s (s + 0) (omega arith)))
-row_has s (suc n) (suc i) lt = omega (arith, times_cons s (row (suc s) n) (s + suc i), subst (λ x. 0 < times (row (suc s) n) x) (let j : suc s + i ≡ s + suc i = omega arith in j) (row_has (suc s) n i (omega arith)))
+row_has s (suc n) zero lt = grind (arith, nat_tests, times_cons s (row (suc s) n) (s + 0))
+row_has s (suc n) (suc i) lt = grind (arith, times_cons s (row (suc s) n) (s + suc i), row_has (suc s) n i)
 
 -- a row whose blocks are all free, counted
 row_free : (free : Blocks) (s n : ℕ) → ((b : ℕ) → times (row s n) b ≤ one_if (free b)) → AllFree free s n
@@ -24,16 +24,7 @@ row_free free s n within i lt = is_true (free (s + i)) (omega (arith, row_has s 
 -- the lowest fit of the greatest length is the longest run
 longest_fit : (rs : List Run) → (lowest_fit (most rs) rs).start ≡ (longest rs).start
 longest_fit [] = refl
-longest_fit (r ∷ rs) =
-    cond_both (ltb r.count (most rs)) (longest rs) r (λ x. (lowest_fit (max r.count (most rs)) (r ∷ rs)).start ≡ x.start)
-    (λ e.
-    let lt = ltb-true r.count (most rs) e in
-    let n : max r.count (most rs) ≡ most rs = omega arith in
-    ap (λ k. (lowest_fit k (r ∷ rs)).start) n ∙ ap (λ (x : Run). x.start) (cond-false (leb (most rs) r.count) (record { start = r.start; count = most rs }) (lowest_fit (most rs) rs) (lt-leb (most rs) r.count lt)) ∙ longest_fit rs)
-    (λ e.
-    let le = ltb-false r.count (most rs) e in
-    let n : max r.count (most rs) ≡ r.count = omega arith in
-    ap (λ k. (lowest_fit k (r ∷ rs)).start) n ∙ ap (λ (x : Run). x.start) (cond-true (leb r.count r.count) (record { start = r.start; count = r.count }) (lowest_fit r.count rs) (le-leb r.count r.count (omega arith))))
+longest_fit (r ∷ rs) = grind (arith, nat_tests, longest_fit rs)
 
 longest_blocks : (rs : List Run) (b : ℕ) → times (row (longest rs).start (longest rs).count) b ≤ times (blocks_of rs) b
 longest_blocks [] b = omega arith
@@ -42,7 +33,7 @@ longest_blocks (r ∷ rs) b = omega (arith, (parted r rs).blocks b)
 -- over a volume of v blocks
 module _ (free : Blocks) (v : ℕ) (below : (b : ℕ) → v ≤ b → free b ≡ false) where
   under : (b : ℕ) → free b ≡ true → b < v
-  under b e = ⊎_elim (λ lt. lt) (λ ge. absurd (false≢true (sym (below b ge) ∙ e))) (cases_lt b v)
+  under b e = grind (arith, below b)
 
   pub fits_at : (n b : ℕ) → 0 < n → AllFree free b n → Fits n b (runs free v)
   fits_at zero b pos all = absurd (omega arith)

@@ -1,7 +1,8 @@
 -- Contents by history: a place shows what the calls and their answers say.
-use Rattle.std.proofs.Common.{◌≡◌, ℕ, ◌+◌, ◌-◌, ◌<◌, ◌≤◌, Bool, true, false, cond, ◌&&◌, eqb, ltb, leb, List, [], ◌∷◌, length, get_or, set, None, sym, refl, ap, ◌∙◌, ⊎_elim, arith, length-set}
+use Rattle.std.proofs.Common.{◌≡◌, ℕ, ◌+◌, ◌-◌, ◌<◌, ◌≤◌, Bool, cond, eqb, List, [], ◌∷◌, length, get_or, set, None, sym, refl, ap, ◌∙◌, arith, length-set}
+use Rattle.std.proofs.lemmas.Bool.Decides.{nat_tests}
 use Rattle.std.proofs.lemmas.List.{get_or-set_same, get_or-set_other, get_or-replicate}
-use Rattle.std.proofs.lemmas.Bool.{ltb-true, ltb-false, leb-false, lt-leb, eq-eqb, ne_eqb, cases_eq}
+use Rattle.std.proofs.lemmas.Bool.{ltb-false, leb-false, lt-leb, eq-eqb, ne_eqb}
 use Rattle.card.specs.Sizes.{block_size}
 use Rattle.calls.specs.declared.kind.Kind.TheVariants.{Written}
 use Rattle.calls.specs.declared.call.Call.{Call}
@@ -30,61 +31,34 @@ module _ {m : Model} {past : List Request} (a : Agrees m past) (q : Request) (f 
   inside : f < length m.files
   inside = omega (arith, a.sized)
 
-  same : concerns q.call f ≡ true
-  same = on f ∙ eq-eqb f f refl
-
-  other : (g : ℕ) → (g ≡ f → ⊥) → concerns q.call g ≡ false
-  other g ne = on g ∙ ne_eqb f g (λ e. ne (sym e))
-
   pub told : (ps : List Place) (free : Blocks) → length ps ≡ resized q.call (length_of past f) → ((k : ℕ) → k < length ps → (get_or ps k hole).bytes ≡ traced (bytes_of past f) (origin q.call q.buffer k)) → Agrees (with_file m f ps free) (q ∷ past)
   told ps free long bytes = record {
     sized = length-set m.files f ps ∙ a.sized;
-    longs = λ g lt'. ⊎_elim
-        (λ (here : g ≡ f). rw (here, same) (ap length (get_or-set_same m.files f ps [] inside) ∙ long))
-        (λ ne. rw (other g ne) (ap length (get_or-set_other m.files f g ps [] ne) ∙ a.longs g lt'))
-        (cases_eq g f);
-    shows = λ g k lt'. ⊎_elim
-        (λ (here : g ≡ f). rw (here, same, get_or-set_same m.files f ps [] inside) (bytes k))
-        (λ ne. rw (other g ne, get_or-set_other m.files f g ps [] ne) (a.shows g k lt'))
-        (cases_eq g f);
+    longs = λ g lt'. grind (arith, nat_tests, on g, a.longs g, long, get_or-set_same m.files f ps [], get_or-set_other m.files f g ps []);
+    shows = λ g k lt' under. grind (arith, nat_tests, on g, a.shows g k, bytes k, get_or-set_same m.files f ps [], get_or-set_other m.files f g ps []);
   }
-
--- bytes by cases
-traced_cond : (b : Bool) (earlier : ℕ → List ℕ) (x y : Place) (o p : Origin) → (b ≡ true → x.bytes ≡ traced earlier o) → (b ≡ false → y.bytes ≡ traced earlier p) → (cond b x y).bytes ≡ traced earlier (cond b o p)
-traced_cond true earlier x y o p then else = then refl
-traced_cond false earlier x y o p then else = else refl
 
 module _ {m : Model} {past : List Request} (a : Agrees m past) (f : ℕ) (lt : f < file_count) (buffer : List ℕ) where
   pub insert_told : (at n : ℕ) → at ≤ length (file m f) → Agrees (insert m f at n) (record { call = Insert f at n; buffer = buffer } ∷ past)
   insert_told at n le =
       let ps = file m f in
       let long = length_inserted ps at n le in
-      told a (record { call = Insert f at n; buffer = buffer }) f (λ g. refl) lt (inserted ps at n) m.free
-      (long ∙ ap (λ l. l + n) (a.longs f lt))
-      (λ k under. ap (λ (p : Place). p.bytes) (inserted_at ps at n k le)
-      ∙ traced_cond (ltb k at) (bytes_of past f) _ _ _ _
-      (λ e. a.shows f k lt (omega (arith, ltb-true k at e)))
-      (λ e. traced_cond (ltb k (at + n)) (bytes_of past f) _ _ _ _ (λ _. refl) (λ e'. a.shows f (k - n) lt (omega (arith, ltb-false k (at + n) e')))))
+      told a (record { call = Insert f at n; buffer = buffer }) f (λ g. refl) lt (inserted ps at n) m.free (omega (arith, long, a.longs f lt))
+      (λ k under. rw (inserted_at ps at n k le) (grind (arith, nat_tests, long, a.shows f k lt, a.shows f (k - n) lt)))
 
   pub collapse_told : (at n : ℕ) → at + n ≤ length (file m f) → Agrees (collapse m f at n) (record { call = Collapse f at n; buffer = buffer } ∷ past)
   collapse_told at n le =
       let ps = file m f in
       let long = length_collapsed ps at n le in
-      told a (record { call = Collapse f at n; buffer = buffer }) f (λ g. refl) lt (collapsed ps at n) (collapse m f at n).free
-      (long ∙ ap (λ l. l - n) (a.longs f lt))
-      (λ k under. ap (λ (p : Place). p.bytes) (collapsed_at ps at n k le)
-      ∙ traced_cond (ltb k at) (bytes_of past f) _ _ _ _
-      (λ e. a.shows f k lt (omega (arith, ltb-true k at e)))
-      (λ e. a.shows f (k + n) lt (omega (arith, ltb-false k at e))))
+      told a (record { call = Collapse f at n; buffer = buffer }) f (λ g. refl) lt (collapsed ps at n) (collapse m f at n).free (omega (arith, long, a.longs f lt))
+      (λ k under. rw (collapsed_at ps at n k le) (grind (arith, nat_tests, long, a.shows f k lt, a.shows f (k + n) lt)))
 
   pub punch_told : (at n : ℕ) → at + n ≤ length (file m f) → Agrees (punch m f at n) (record { call = Punch f at n; buffer = buffer } ∷ past)
   punch_told at n le =
       let ps = file m f in
       let long = length_punched ps at n le in
-      told a (record { call = Punch f at n; buffer = buffer }) f (λ g. refl) lt (punched ps at n) (punch m f at n).free
-      (long ∙ a.longs f lt)
-      (λ k under. ap (λ (p : Place). p.bytes) (punched_at ps at n k le)
-      ∙ traced_cond (leb at k && ltb k (at + n)) (bytes_of past f) _ _ _ _ (λ _. refl) (λ _. a.shows f k lt (omega arith)))
+      told a (record { call = Punch f at n; buffer = buffer }) f (λ g. refl) lt (punched ps at n) (punch m f at n).free (omega (arith, long, a.longs f lt))
+      (λ k under. rw (punched_at ps at n k le) (grind (arith, nat_tests, long, a.shows f k lt)))
 
   -- a reserve of either form
   pub reserve_told : (call : Call) (at : ℕ) (bs : List ℕ) → ((g : ℕ) → concerns call g ≡ eqb f g) → ((l : ℕ) → resized call l ≡ l) → ((k : ℕ) → origin call buffer k ≡ was k) → at ≤ length (file m f) → Agrees (reserve m f at bs) (record { call = call; buffer = buffer } ∷ past)
@@ -101,22 +75,17 @@ module _ {m : Model} {past : List Request} (a : Agrees m past) (f : ℕ) (lt : f
       let p : Place = record { kind = Written; block = (place m f at).block; bytes = buffer } in
       let long = length-set ps at p in
       told a (record { call = Write f at; buffer = buffer }) f (λ g. refl) lt (set ps at p) m.free (long ∙ a.longs f lt)
-      (λ k under'. ⊎_elim
-      (λ (here : k ≡ at). rw (here, eq-eqb at at refl) (ap (λ (q : Place). q.bytes) (get_or-set_same ps at p hole under)))
-      (λ ne. rw (ne_eqb k at ne) (ap (λ (q : Place). q.bytes) (get_or-set_other ps at k p hole ne) ∙ a.shows f k lt (omega arith)))
-      (cases_eq k at))
+      (λ k under'. grind (arith, nat_tests, long, a.shows f k lt, get_or-set_same ps at p hole, get_or-set_other ps at k p hole))
 
   pub drop_told : Agrees (empty m f) (record { call = Drop f; buffer = buffer } ∷ past)
   drop_told = told a (record { call = Drop f; buffer = buffer }) f (λ g. refl) lt [] (empty m f).free refl (λ k under. absurd (omega arith))
 
 -- a granted call that changes no place
 kept_cond : (b : Bool) (earlier : ℕ → List ℕ) (o : Origin) (k : ℕ) → o ≡ was k → earlier k ≡ traced earlier (cond b o (was k))
-kept_cond true earlier o k e = sym (ap (traced earlier) e)
-kept_cond false earlier o k e = refl
+kept_cond b earlier o k e = grind arith
 
 kept_length : (b : Bool) (l r : ℕ) → r ≡ l → l ≡ cond b r l
-kept_length true l r e = sym e
-kept_length false l r e = refl
+kept_length b l r e = grind arith
 
 unchanged : {m : Model} {past : List Request} → Agrees m past → (q : Request) → ((l : ℕ) → resized q.call l ≡ l) → ((k : ℕ) → origin q.call q.buffer k ≡ was k) → Agrees m (q ∷ past)
 unchanged {m = m} {past = past} a q size stays = record {
