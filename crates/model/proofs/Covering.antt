@@ -1,7 +1,7 @@
 -- No choice has fewer pieces than the split.
 use Rattle.std.proofs.Common.{◌≡◌, ℕ, zero, suc, ◌+◌, ◌-◌, ◌<◌, ◌≤◌, max, Bool, true, false, cond, not, eqb, ltb, List, [], ◌∷◌, length, count_by, sym, refl, ap, ◌∙◌, arith}
 use Rattle.std.proofs.lemmas.List.Sums.{sum_by-cons}
-use Rattle.std.proofs.lemmas.Bool.{ltb-true, ltb-false, eqb-false, cond_both}
+use Rattle.std.proofs.lemmas.Bool.{ltb-true, eqb-false, cond_both}
 use Rattle.std.proofs.lemmas.Bool.Decides.{nat_tests}
 use Rattle.model.specs.Space.{Blocks, times, Run, run_before, runs_from, runs, total, most, others, split_up_to}
 use Rattle.model.specs.Ownership.{one_if}
@@ -41,22 +41,16 @@ record Fewer (xs : List Run) (os : List Run) (l : ℕ) : Type 0 where
 
 exchange : {xs rs : List Run} → Sub xs rs → 0 < length xs → Fewer xs (others rs) (most rs)
 exchange none some = absurd (omega arith)
-exchange (skip {r = r} {xs = xs} {rs = rs} s) some =
-    cond_both (ltb r.count (most rs)) _ _ (λ os. Fewer xs os (max r.count (most rs)))
+exchange (skip {xs = []} s) some = absurd (omega arith)
+exchange (skip {r = r} {xs = x ∷ xs} {rs = rs} s) some =
+    cond_both (ltb r.count (most rs)) _ _ (λ os. Fewer (x ∷ xs) os (max r.count (most rs)))
     (λ e. let ih = exchange s some in record { rest = ih.rest; sub = skip ih.sub; fewer = ih.fewer; near = omega (arith, ih.near) })
-    (λ e. first_out xs rs s some (ltb-false r.count (most rs) e))
-  where
-    first_out : (xs rs : List Run) → Sub xs rs → 0 < length xs → most rs ≤ r.count → Fewer xs rs (max r.count (most rs))
-    first_out [] rs s some le = absurd (omega arith)
-    first_out (x ∷ xs) rs s some le = record { rest = xs; sub = sub_tail s; fewer = refl; near = omega (arith, sub_most s) }
-exchange (keep {r = r} {xs = xs} {rs = rs} s) some =
-    cond_both (ltb r.count (most rs)) _ _ (λ os. Fewer (r ∷ xs) os (max r.count (most rs)))
-    (λ e. go xs rs s (ltb-true r.count (most rs) e) (exchange s))
-    (λ e. record { rest = xs; sub = s; fewer = refl; near = omega arith })
-  where
-    go : (xs rs : List Run) → Sub xs rs → r.count < most rs → (0 < length xs → Fewer xs (others rs) (most rs)) → Fewer (r ∷ xs) (r ∷ others rs) (max r.count (most rs))
-    go [] rs s lt ih = record { rest = []; sub = sub_none (r ∷ others rs); fewer = refl; near = omega arith }
-    go (x ∷ xs) rs s lt ih = let f = ih (omega arith) in record { rest = r ∷ f.rest; sub = keep f.sub; fewer = ap suc f.fewer; near = omega (arith, f.near) }
+    (λ e. record { rest = xs; sub = sub_tail s; fewer = refl; near = omega (arith, sub_most s) })
+exchange (keep {r = r} {xs = []} {rs = rs} s) some = record { rest = []; sub = sub_none (others (r ∷ rs)); fewer = refl; near = omega arith }
+exchange (keep {r = r} {xs = x ∷ xs} {rs = rs} s) some =
+    cond_both (ltb r.count (most rs)) _ _ (λ os. Fewer (r ∷ x ∷ xs) os (max r.count (most rs)))
+    (λ e. let ih = exchange s (omega arith) in record { rest = r ∷ ih.rest; sub = keep ih.sub; fewer = ap suc ih.fewer; near = omega (arith, ih.near, ltb-true r.count (most rs) e) })
+    (λ e. record { rest = x ∷ xs; sub = s; fewer = refl; near = omega arith })
 
 -- no selection that has room for n has fewer runs than the split
 pub split_fewest : (k n : ℕ) (rs xs : List Run) → length rs ≤ k → Sub xs rs → 0 < n → n ≤ total xs → length (split_up_to k n rs) ≤ length xs

@@ -1,10 +1,11 @@
 -- The free runs are the only rising rows that have just the free blocks.
 use Rattle.std.proofs.Common.{◌≡◌, ℕ, zero, suc, ◌+◌, ◌<◌, ◌≤◌, Bool, true, false, cond, eqb, ltb, List, [], ◌∷◌, sym, refl, ap, ◌∙◌, subst, ap₂, ⊎_elim, arith}
-use Rattle.std.proofs.lemmas.Bool.{lt-ltb, eqb-true, eqb-false, eq-eqb, ne_eqb, cond_both, cond-true, cond-false, cases_eq, cases_lt}
+use Rattle.std.proofs.lemmas.Bool.Decides.{nat_tests}
+use Rattle.std.proofs.lemmas.Bool.{lt-ltb, cases_lt}
 use Rattle.model.specs.Space.{Blocks, times, Run, run_before, runs_from, runs, row, blocks_of}
 use Rattle.model.specs.Ownership.{one_if}
 use Rattle.model.specs.Exact.{Rising, RunsExact}
-use Rattle.model.proofs.Basics.{is_true, is_false}
+use Rattle.model.proofs.Basics.{is_false}
 use Rattle.model.proofs.Choosing.{times_cons, times_append, row_below, blocks_before}
 
 pub rising_weaker : (v s t : ℕ) (rs : List Run) → t ≤ s → Rising v s rs → Rising v t rs
@@ -14,20 +15,12 @@ rising_weaker v s t (r ∷ rs) le q = (omega (arith, q.0), q.1, q.2, q.3)
 -- the blocks of rising runs are not below
 rising_none : (v s b : ℕ) (rs : List Run) → Rising v s rs → b < s → times (blocks_of rs) b ≡ 0
 rising_none v s b [] r lt = refl
-rising_none v s b (r ∷ rs) q lt =
-    times_append (row r.start r.count) (blocks_of rs) b
-    ∙ omega (arith, row_below r.start r.count b (omega (arith, q.0)), rising_none v (suc (r.start + r.count)) b rs q.3 (omega (arith, q.0)))
+rising_none v s b (r ∷ rs) q lt = grind (arith, times_append (row r.start r.count) (blocks_of rs) b, row_below r.start r.count b, rising_none v (suc (r.start + r.count)) b rs)
 
 rising_before : (v s : ℕ) (x : Bool) (rs : List Run) → s < v → Rising v (suc s) rs → Rising v s (run_before x s rs)
 rising_before v s false rs lt r = rising_weaker v (suc s) s rs (omega arith) r
 rising_before v s true [] lt r = (omega arith, omega arith, omega arith, tt)
-rising_before v s true (r ∷ rs) lt q =
-    cond_both (eqb (suc s) r.start) (record { start = s; count = suc r.count } ∷ rs) (record { start = s; count = 1 } ∷ r ∷ rs) (λ x. Rising v s x)
-    (λ e. let at = eqb-true (suc s) r.start e in (omega arith, omega arith, omega (arith, q.2, at), rising_weaker v (suc (r.start + r.count)) (suc (s + suc r.count)) rs (omega (arith, at)) q.3))
-    (λ e. let other = eqb-false (suc s) r.start e in (omega arith, omega arith, omega arith, (gap other, q.1, q.2, q.3)))
-  where
-    gap : (suc s ≡ r.start → ⊥) → suc (s + 1) ≤ r.start
-    gap other = ⊎_elim (λ lt. absurd (other (omega (arith, q.0)))) (λ le. le) (cases_lt r.start (suc (s + 1)))
+rising_before v s true (r ∷ rs) lt q = grind (arith, nat_tests, rising_weaker v (suc (r.start + r.count)) (suc (s + suc r.count)) rs)
 
 runs_rise : (free : Blocks) (v s n : ℕ) → s + n ≡ v → Rising v s (runs_from free s n)
 runs_rise free v s zero e = tt
@@ -40,23 +33,15 @@ times_before true s rs b = ap (λ l. times l b) (blocks_before s rs) ∙ times_c
 runs_stand : (free : Blocks) (s n b : ℕ) → s ≤ b → b < s + n → times (blocks_of (runs_from free s n)) b ≡ one_if (free b)
 runs_stand free s zero b le lt = absurd (omega arith)
 runs_stand free s (suc n) b le lt =
-    times_before (free s) s (runs_from free (suc s) n) b
-    ∙ ⊎_elim
-    (λ (same : s ≡ b).
-    let none = rising_none (suc s + n) (suc s) b (runs_from free (suc s) n) (runs_rise free (suc s + n) (suc s) n refl) (omega arith) in
-    let one : cond (free s) (one_if (eqb s b)) 0 ≡ one_if (free b) = rw (eq-eqb s b same, same) in
-    omega (arith, none, one))
-    (λ other.
-    let zero_here : cond (free s) (one_if (eqb s b)) 0 ≡ 0 = cond_both (free s) (one_if (eqb s b)) 0 (λ y. y ≡ 0) (λ _. rw (ne_eqb s b other)) (λ _. refl) in
-    omega (arith, zero_here, runs_stand free (suc s) n b (omega arith) (omega arith)))
-    (cases_eq s b)
+    let later = runs_from free (suc s) n in
+    grind (arith, nat_tests, times_before (free s) s later b, rising_none (suc s + n) (suc s) b later (runs_rise free (suc s + n) (suc s) n refl), runs_stand free (suc s) n b)
 
 before_gap : (v s : ℕ) (rs : List Run) → Rising v (suc (s + 1)) rs → run_before true s rs ≡ record { start = s; count = 1 } ∷ rs
 before_gap v s [] r = refl
-before_gap v s (r ∷ rs) q = cond-false (eqb (suc s) r.start) (record { start = s; count = suc r.count } ∷ rs) (record { start = s; count = 1 } ∷ r ∷ rs) (ne_eqb (suc s) r.start (λ e. omega (arith, q.0)))
+before_gap v s (r ∷ rs) q = grind (arith, nat_tests)
 
 before_touching : (s n : ℕ) (rs : List Run) → run_before true s (record { start = suc s; count = n } ∷ rs) ≡ record { start = s; count = suc n } ∷ rs
-before_touching s n rs = cond-true (eqb (suc s) (suc s)) (record { start = s; count = suc n } ∷ rs) (record { start = s; count = 1 } ∷ record { start = suc s; count = n } ∷ rs) (eq-eqb (suc s) (suc s) refl)
+before_touching s n rs = grind (arith, nat_tests)
 
 runs_only : (free : Blocks) (v n s : ℕ) (rs : List Run) → s + n ≡ v → Rising v s rs → ((b : ℕ) → s ≤ b → b < v → times (blocks_of rs) b ≡ one_if (free b)) → runs_from free s n ≡ rs
 runs_only free v zero s [] e r all = refl
@@ -73,10 +58,10 @@ runs_only free v (suc n) s (r ∷ rs) e q all =
     (cases_lt s r.start)
   where
     behind : (c : ℕ) (l : List Run) → ((b : ℕ) → s ≤ b → b < v → times (s ∷ blocks_of l) b ≡ one_if (free b)) → (b : ℕ) → suc s ≤ b → b < v → times (blocks_of l) b ≡ one_if (free b)
-    behind c l just b le lt = omega (arith, times_cons s (blocks_of l) b, just b (omega arith) lt, ap one_if (ne_eqb s b (λ z. omega arith)))
+    behind c l just b le lt = grind (arith, nat_tests, times_cons s (blocks_of l) b, just b)
 
     open_at : (l : List ℕ) → ((b : ℕ) → s ≤ b → b < v → times (s ∷ l) b ≡ one_if (free b)) → free s ≡ true
-    open_at l just = is_true (free s) (omega (arith, just s (omega arith) (omega arith), times_cons s l s, ap one_if (eq-eqb s s refl)))
+    open_at l just = grind (arith, nat_tests, just s, times_cons s l s)
 
     at_s : (c : ℕ) → Rising v s (record { start = s; count = c } ∷ rs) → ((b : ℕ) → s ≤ b → b < v → times (blocks_of (record { start = s; count = c } ∷ rs)) b ≡ one_if (free b)) → ((l : List Run) → Rising v (suc s) l → ((b : ℕ) → suc s ≤ b → b < v → times (blocks_of l) b ≡ one_if (free b)) → runs_from free (suc s) n ≡ l) → run_before (free s) s (runs_from free (suc s) n) ≡ record { start = s; count = c } ∷ rs
     at_s zero q just ih = absurd (omega (arith, q.1))
@@ -106,9 +91,4 @@ fresh_runs v pos =
   where
     one_each : (s n b : ℕ) → s ≤ b → b < s + n → times (row s n) b ≡ 1
     one_each s zero b le lt = absurd (omega arith)
-    one_each s (suc n) b le lt =
-        times_cons s (row (suc s) n) b
-        ∙ ⊎_elim
-        (λ (same : s ≡ b). omega (arith, ap one_if (eq-eqb s b same), row_below (suc s) n b (omega arith)))
-        (λ other. omega (arith, ap one_if (ne_eqb s b other), one_each (suc s) n b (omega arith) (omega arith)))
-        (cases_eq s b)
+    one_each s (suc n) b le lt = grind (arith, nat_tests, times_cons s (row (suc s) n) b, row_below (suc s) n b, one_each (suc s) n b)

@@ -1,11 +1,10 @@
 -- The free runs are at most one more than the extents that own blocks.
-use Rattle.std.proofs.Common.{◌≡◌, ℕ, zero, suc, ◌+◌, ◌<◌, ◌≤◌, Bool, true, false, cond, not, ◌&&◌, ◌||◌, eqb, ltb, List, [], ◌∷◌, length, sum_by, count_by, sym, refl, ap, ◌∙◌, ap₂, ⊎_elim, arith}
-use Rattle.std.proofs.Math.Bool.{and-false}
+use Rattle.std.proofs.Common.{◌≡◌, ℕ, zero, suc, ◌+◌, ◌<◌, ◌≤◌, Bool, true, false, cond, not, ◌&&◌, eqb, List, [], ◌∷◌, length, sum_by, count_by, refl, arith}
 use Rattle.std.proofs.lemmas.List.Sums.{sum_by-cons}
-use Rattle.std.proofs.lemmas.Bool.{lt-ltb, and_parts, not-true, cond_both, cases_Bool}
+use Rattle.std.proofs.lemmas.Bool.{cond_both}
 use Rattle.calls.specs.declared.kind.Kind.{Kind}
 use Rattle.model.specs.Places.{Place, is_hole, on, held}
-use Rattle.model.specs.Extents.{same_kind, Extent, goes_on, before, extents}
+use Rattle.model.specs.Extents.{Extent, goes_on, before, extents}
 use Rattle.model.specs.Space.{Blocks, Run, run_before, runs_from, runs}
 use Rattle.model.specs.Store.{Config, Model, free_runs}
 use Rattle.model.specs.Replay.{reached}
@@ -30,16 +29,13 @@ opens free x = one_if (free x && not (pre free x))
 abbrev follows : Blocks → ℕ → ℕ
 follows free x = one_if (free x && pre free x)
 
-before_at_most : (s : ℕ) (rs : List Run) → length (run_before true s rs) ≤ suc (length rs)
-before_at_most s rs = grind (arith, nat_tests)
-
 before_joins : (s : ℕ) {rs : List Run} → Starts (suc s) 1 rs → length (run_before true s rs) ≡ length rs
 before_joins s (starts at le) = grind (arith, nat_tests)
 
 -- one block more in front
 runs_more : (free : Blocks) (s n : ℕ) (x y : Bool) → free s ≡ x → free (suc s) ≡ y → length (runs_from free (suc s) n) ≤ tally (opens free) (suc s) n + one_if (free (suc s) && free s) → length (run_before x s (runs_from free (suc s) n)) ≤ tally (opens free) (suc s) n + one_if x
 runs_more free s n false y xe ye ih = grind arith
-runs_more free s n true false xe ye ih = grind (arith, before_at_most s (runs_from free (suc s) n))
+runs_more free s n true false xe ye ih = grind (arith, nat_tests)
 runs_more free s zero true true xe ye ih = omega arith
 runs_more free s (suc n) true true xe ye ih =
     let h : Starts (suc s) 1 (runs_from free (suc s) (suc n)) = rw ye (starts_one (suc s) (runs_from free (suc (suc s)) n)) in
@@ -65,18 +61,15 @@ owning_new k b e es solid apart = rw apart (grind (arith, owning_cons (record { 
 
 -- a place whose next block is free is the last of its extent
 module _ (free : Blocks) where
+  apart_from : (q r : Place) (rs : List Place) → is_hole q.kind ≡ false → free (suc q.block) ≡ true → ((b : ℕ) → 0 < held (r ∷ rs) b → free b ≡ false) → goes_on q.kind q.block r.kind r.block ≡ false
+  apart_from q r rs solid next shut = grind (arith, nat_tests, kinds_same q.kind r.kind, held_cons r rs (suc q.block), shut (suc q.block))
+
   last_place : (q : Place) (ps : List Place) → is_hole q.kind ≡ false → free (suc q.block) ≡ true → ((b : ℕ) → 0 < held ps b → free b ≡ false) → owning (before q.kind q.block (extents ps)) ≡ suc (owning (extents ps))
   last_place q [] solid next shut = rw solid
   last_place q (r ∷ rs) solid next shut =
       let h = before_head r.kind r.block (extents rs) in
-      let apart : goes_on q.kind q.block r.kind r.block ≡ false = ⊎_elim (λ yes. absurd (joined yes)) (λ no. no) (cases_Bool (goes_on q.kind q.block r.kind r.block)) in
-      let apart' : goes_on q.kind q.block h.first.kind h.first.block ≡ false = ap₂ (λ k b. goes_on q.kind q.block k b) h.kind h.block ∙ apart in
-      ap (λ es. owning (before q.kind q.block es)) h.is ∙ owning_new q.kind q.block h.first h.rest solid apart' ∙ ap (λ es. suc (owning es)) (sym h.is)
-    where
-      joined : goes_on q.kind q.block r.kind r.block ≡ true → ⊥
-      joined meets =
-          let both = and_parts (same_kind q.kind r.kind) (is_hole q.kind || eqb (suc q.block) r.block) meets in
-          grind (arith, nat_tests, kinds_same q.kind r.kind both.0, both.1, held_cons r rs (suc q.block), shut (suc q.block))
+      let apart = apart_from q r rs solid next shut in
+      rw h.is (owning_new q.kind q.block h.first h.rest solid (rw (h.kind, h.block) apart))
 
   abbrev ends_here : Place → Bool
   ends_here q = not (is_hole q.kind) && free (suc q.block)
@@ -85,13 +78,8 @@ module _ (free : Blocks) where
   ends_le [] shut = omega arith
   ends_le (q ∷ ps) shut =
       let shut' : (b : ℕ) → 0 < held ps b → free b ≡ false = λ b lt. shut b (omega (arith, held_cons q ps b)) in
-      let rest = ends_le ps shut' in
       let more = sum_by-cons (λ x. cond (ends_here x) 1 0) q ps in
-      ⊎_elim
-      (λ yes. let both = and_parts (not (is_hole q.kind)) (free (suc q.block)) yes in
-      omega (arith, rest, more, ap one_if yes, last_place q ps (not-true (is_hole q.kind) both.0) both.1 shut'))
-      (λ no. omega (arith, rest, more, ap one_if no, owning_grows q.kind q.block (extents ps)))
-      (cases_Bool (ends_here q))
+      grind (arith, more, ends_le ps shut', last_place q ps, owning_grows q.kind q.block (extents ps))
 
   -- by blocks instead of by places
   one_le : (b s n : ℕ) → tally (λ x. cond (free (suc x)) (one_if (eqb b x)) 0) s n ≤ one_if (free (suc b))
@@ -116,9 +104,6 @@ module _ (free : Blocks) where
       omega (arith, sum, places_le n ps, ends_le ps (λ x lt. shut x (omega (arith, cons x))), files_le n fs (λ x lt. shut x (omega (arith, cons x))), sum_by-cons (λ qs. owning (extents qs)) ps fs)
 
 -- each run but one at block 0 has an owned block before it
-is_shut : (x : Bool) (o t : ℕ) → o + one_if x ≡ t → t ≤ 1 → 0 < o → x ≡ false
-is_shut x o t e le lt = grind arith
-
 opens_le : (free : Blocks) (owner : ℕ → ℕ) (v s n : ℕ) → s + n ≤ v → ((b : ℕ) → b < v → 1 ≤ owner b + one_if (free b)) → tally (opens free) (suc s) n ≤ tally (λ x. cond (free (suc x)) (owner x) 0) s n
 opens_le free owner v s zero le whole = omega arith
 opens_le free owner v s (suc n) le whole = grind (arith, whole s, opens_le free owner v (suc s) n)
@@ -130,11 +115,9 @@ few c m s = go c.volume s
     go zero s = omega arith
     go (suc v) s =
         let a = runs_opens m.free 0 (suc v) in
-        let b = opens_le m.free (owners m) v 0 v (omega arith) (λ x lt. omega (arith, s.owned x, ap one_if (lt-ltb x (suc v) (omega arith)))) in
-        let d = files_le m.free v m.files (λ x lt. is_shut (m.free x) (owners m x) (one_if (ltb x (suc v))) (s.owned x) (one_if_le (ltb x (suc v))) lt) in
-        let first = one_if_le (m.free 0 && not (pre m.free 0)) in
-        let none : follows m.free 0 ≡ 0 = ap one_if (and-false (m.free 0)) in
-        omega (arith, a, b, d, first, none)
+        let b = opens_le m.free (owners m) v 0 v (omega arith) (λ x lt. grind (arith, nat_tests, s.owned x)) in
+        let d = files_le m.free v m.files (λ x lt. grind (arith, s.owned x)) in
+        grind (arith, a, b, d)
 
 pub few_runs : FewRuns
 few_runs c qs = few c (reached c qs) (reached_sound c qs)

@@ -3,7 +3,6 @@ use Rattle.std.proofs.Common.{◌≡◌, ℕ, false, eqb, List, [], get_or, set,
 use Rattle.std.proofs.lemmas.List.{get_or-set_other}
 use Rattle.std.proofs.lemmas.Bool.{eqb-false}
 use Rattle.calls.specs.declared.call.Call.{Call}
-use Rattle.calls.specs.declared.call.Call.TheVariants.{Insert, Collapse, Punch, ReserveWhole, ReserveSplit, Write, Read, Find, Length, Tally, Map, Drop}
 use Rattle.calls.specs.Answers.{answer_number}
 use Rattle.calls.specs.Calls.{concerns}
 use Rattle.model.specs.Places.{Place}
@@ -22,18 +21,7 @@ other : (m : Model) (f g : ℕ) (ps : List Place) → eqb f g ≡ false → get_
 other m f g ps e = get_or-set_other m.files f g ps [] (λ same. eqb-false f g e (sym same))
 
 granted_others : (c : Config) (m : Model) (call : Call) (buffer : List ℕ) (g : ℕ) → concerns call g ≡ false → file (granted c m call buffer).next g ≡ file m g
-granted_others c m (Insert f at n) buffer g e = other m f g _ e
-granted_others c m (Collapse f at n) buffer g e = other m f g _ e
-granted_others c m (Punch f at n) buffer g e = other m f g _ e
-granted_others c m (ReserveWhole f at n) buffer g e = other m f g _ e
-granted_others c m (ReserveSplit f at n) buffer g e = other m f g _ e
-granted_others c m (Write f at) buffer g e = other m f g _ e
-granted_others c m (Read f at) buffer g e = refl
-granted_others c m (Find f at) buffer g e = refl
-granted_others c m (Length f) buffer g e = refl
-granted_others c m Tally buffer g e = refl
-granted_others c m (Map f) buffer g e = refl
-granted_others c m (Drop f) buffer g e = other m f g _ e
+granted_others c m call buffer g e = grind (arith, other m)
 
 pub others_stay : OthersStay
 others_stay c m call buffer g e = step_both c m call buffer (λ o. file o.next g ≡ file m g) (λ _. refl) (λ _. granted_others c m call buffer g e)

@@ -1,5 +1,5 @@
 -- Limits: what every run keeps within.
-use Rattle.std.proofs.Common.{◌≡◌, ℕ, zero, suc, ◌+◌, ◌-◌, ◌<◌, ◌≤◌, true, false, cond, ltb, List, [], ◌∷◌, length, get_or, take, drop, set, replicate, None, refl, ◌∙◌, ⊎_elim, arith, length-set}
+use Rattle.std.proofs.Common.{◌≡◌, ℕ, zero, suc, ◌+◌, ◌-◌, ◌<◌, ◌≤◌, true, false, cond, ltb, List, [], ◌∷◌, length, get_or, take, drop, set, replicate, refl, ◌∙◌, ⊎_elim, arith, length-set}
 use Rattle.std.proofs.lemmas.List.Sums.{sum_by-set}
 use Rattle.std.proofs.lemmas.List.{places, get_or-set_same, get_or-set_other, get_or-drop}
 use Rattle.std.proofs.lemmas.Bool.{ltb-false, leb-false, eqb-true, and_parts, not-false, cases_eq, cases_lt}
@@ -12,11 +12,11 @@ use Rattle.model.specs.Extents.{extents, cut}
 use Rattle.model.specs.Space.{Blocks, Run, total, most, split, whole, blocks_of}
 use Rattle.card.specs.Sizes.{block_size}
 use Rattle.model.specs.Store.{Config, Model, fresh, file, place, with_file, extent_count, spare, free_runs, both_cuts, insert, collapse, punch, reserve, write, empty, file_count, most_places}
-use Rattle.model.specs.Rules.{first, reasons, granted, step}
+use Rattle.model.specs.Rules.{reasons, granted, step}
 use Rattle.model.specs.Replay.{Request, run}
 use Rattle.model.specs.Limits.{TidyAs, Tidy, Within, LimitsKept}
 use Rattle.model.proofs.Basics.{positive}
-use Rattle.model.proofs.Settled.{step_both, clear}
+use Rattle.model.proofs.Settled.{Clear, step_both}
 use Rattle.model.proofs.Choosing.{some_run, fit_count, split_total}
 use Rattle.model.proofs.Owners.{whole_long, split_long}
 use Rattle.model.proofs.Changing.{inserted_at, collapsed_at, punched_at, length_inserted, length_collapsed, length_punched, length_reserved}
@@ -105,42 +105,30 @@ module _ {c : Config} {m : Model} (w : Within c m) (f : ℕ) (lt : f < file_coun
   drop_within : Within c (empty m f)
   drop_within = changed [] (empty m f).free (omega arith) (omega (arith, w.entries)) (λ k. hole_tidy)
 
-granted_within : (c : Config) (m : Model) → Within c m → (call : Call) (bytes : List ℕ) → first (reasons c m call bytes) ≡ None → Within c (granted c m call bytes).next
-granted_within c m w (Insert f at n) bytes e =
-    let ok = clear (reasons c m (Insert f at n) bytes) e in
-    insert_within w f (leb-false _ _ ok.0) at n (ltb-false _ _ ok.1.1.0) (ltb-false _ _ ok.1.1.1.0) ok.1.1.1.1.0
-granted_within c m w (Collapse f at n) bytes e =
-    let ok = clear (reasons c m (Collapse f at n) bytes) e in
-    collapse_within w f (leb-false _ _ ok.0) at n (positive n ok.1.0) (ltb-false _ _ ok.1.1.0) ok.1.1.1.0
-granted_within c m w (Punch f at n) bytes e =
-    let ok = clear (reasons c m (Punch f at n) bytes) e in
-    punch_within w f (leb-false _ _ ok.0) at n (positive n ok.1.0) (ltb-false _ _ ok.1.1.0) ok.1.1.1.0
-granted_within c m w (ReserveWhole f at n) bytes e =
-    let ok = clear (reasons c m (ReserveWhole f at n) bytes) e in
+granted_within : (c : Config) (m : Model) → Within c m → (call : Call) (bytes : List ℕ) → Clear (reasons c m call bytes) → Within c (granted c m call bytes).next
+granted_within c m w (Insert f at n) bytes ok = insert_within w f (leb-false _ _ ok.0) at n (ltb-false _ _ ok.1.1.0) (ltb-false _ _ ok.1.1.1.0) ok.1.1.1.1.0
+granted_within c m w (Collapse f at n) bytes ok = collapse_within w f (leb-false _ _ ok.0) at n (positive n ok.1.0) (ltb-false _ _ ok.1.1.0) ok.1.1.1.0
+granted_within c m w (Punch f at n) bytes ok = punch_within w f (leb-false _ _ ok.0) at n (positive n ok.1.0) (ltb-false _ _ ok.1.1.0) ok.1.1.1.0
+granted_within c m w (ReserveWhole f at n) bytes ok =
     let fits : n ≤ most (free_runs c m) = ltb-false _ _ ok.1.1.1.1.0 in
     let qs = whole n (free_runs c m) in
     let all : total qs ≡ n = omega (arith, fit_count n (free_runs c m) fits) in
     reserve_within w f (leb-false _ _ ok.0) at n qs (positive n ok.1.0) (ltb-false _ _ ok.1.1.0) all (whole_long (free_runs c m) n fits) (not-false _ ok.1.1.1.0) (omega arith)
     (rw (let same : both_cuts m f at n + 1 - 1 ≡ both_cuts m f at n = omega arith in same) ok.1.1.1.1.1.0)
-granted_within c m w (ReserveSplit f at n) bytes e =
-    let ok = clear (reasons c m (ReserveSplit f at n) bytes) e in
+granted_within c m w (ReserveSplit f at n) bytes ok =
     let fits : n ≤ total (free_runs c m) = ltb-false _ _ ok.1.1.1.1.0 in
     let qs = split n (free_runs c m) in
     let all : total qs ≡ n = split_total (length (free_runs c m)) n (free_runs c m) (omega arith) fits in
     let pos = positive n ok.1.0 in
     reserve_within w f (leb-false _ _ ok.0) at n qs pos (ltb-false _ _ ok.1.1.0) all (split_long (free_runs c m) n fits) (not-false _ ok.1.1.1.0) (some_run qs (omega (arith, all, pos)))
     ok.1.1.1.1.1.1.0
-granted_within c m w (Write f at) bytes e =
-    let ok = clear (reasons c m (Write f at) bytes) e in
-    write_within w f (leb-false _ _ ok.0) at bytes (leb-false _ _ ok.1.0) (eqb-true _ _ (not-false _ ok.1.1.0)) ok.1.1.1.0 ok.1.1.1.1.0
-granted_within c m w (Read f at) bytes e = w
-granted_within c m w (Find f at) bytes e = w
-granted_within c m w (Length f) bytes e = w
-granted_within c m w Tally bytes e = w
-granted_within c m w (Map f) bytes e = w
-granted_within c m w (Drop f) bytes e =
-    let ok = clear (reasons c m (Drop f) bytes) e in
-    drop_within w f (leb-false _ _ ok.0)
+granted_within c m w (Write f at) bytes ok = write_within w f (leb-false _ _ ok.0) at bytes (leb-false _ _ ok.1.0) (eqb-true _ _ (not-false _ ok.1.1.0)) ok.1.1.1.0 ok.1.1.1.1.0
+granted_within c m w (Read f at) bytes ok = w
+granted_within c m w (Find f at) bytes ok = w
+granted_within c m w (Length f) bytes ok = w
+granted_within c m w Tally bytes ok = w
+granted_within c m w (Map f) bytes ok = w
+granted_within c m w (Drop f) bytes ok = drop_within w f (leb-false _ _ ok.0)
 
 run_within : (c : Config) (m : Model) → Within c m → (qs : List Request) → Within c (run c m qs).after
 run_within c m w [] = w

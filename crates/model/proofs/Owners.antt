@@ -1,5 +1,5 @@
 -- One owner: each block is free, or in one place of one file.
-use Rattle.std.proofs.Common.{◌≡◌, ℕ, zero, suc, ◌+◌, ◌<◌, ◌≤◌, Bool, true, false, cond, ◌||◌, ltb, List, [], ◌∷◌, ◌++◌, length, take, drop, set, replicate, None, refl, ap, ◌∙◌, arith, length-drop, length-set}
+use Rattle.std.proofs.Common.{◌≡◌, ℕ, zero, suc, ◌+◌, ◌<◌, ◌≤◌, Bool, true, false, cond, ◌||◌, ltb, List, [], ◌∷◌, ◌++◌, length, take, drop, set, replicate, refl, ap, ◌∙◌, arith, length-drop, length-set}
 use Rattle.std.proofs.lemmas.List.Folds.{sum_by-replicate}
 use Rattle.std.proofs.lemmas.List.Sums.{sum_by-cons, sum_by-append, sum_by-set, sum_by-take-drop, get_or-le-sum_by}
 use Rattle.std.proofs.lemmas.Bool.{le-ltb, ltb-false, leb-false, not-false}
@@ -10,11 +10,11 @@ use Rattle.calls.specs.declared.call.Call.TheVariants.{Insert, Collapse, Punch, 
 use Rattle.model.specs.Places.{Place, hole, is_hole, on, held, all_holes, range, inserted, collapsed, punched, laid, reserved}
 use Rattle.model.specs.Space.{Blocks, times, Run, runs, total, most, lowest_fit, split, whole, row, blocks_of, without}
 use Rattle.model.specs.Store.{Config, Model, fresh, file, place, with_file, freed, free_runs, insert, collapse, punch, reserve, write, empty, file_count}
-use Rattle.model.specs.Rules.{first, reasons, granted, step}
+use Rattle.model.specs.Rules.{reasons, granted, step}
 use Rattle.model.specs.Replay.{Request, run, reached}
 use Rattle.model.specs.Ownership.{one_if, owners, OneOwner}
 use Rattle.model.proofs.Basics.{one_if_le, is_false, without_one}
-use Rattle.model.proofs.Settled.{step_both, clear}
+use Rattle.model.proofs.Settled.{Clear, step_both}
 use Rattle.model.proofs.Choosing.{times_cons, times_append, length_blocks, fit_count, fit_blocks, split_total, split_blocks, runs_once}
 
 -- counting places on a block
@@ -109,41 +109,29 @@ pub split_long : (rs : List Run) (n : ℕ) → n ≤ total rs → length (blocks
 split_long rs n le = length_blocks (split n rs) ∙ split_total (length rs) n rs (omega arith) le
 
 -- each granted call
-pub granted_sound : (c : Config) (m : Model) → Sound c.volume m → (call : Call) (bytes : List ℕ) → first (reasons c m call bytes) ≡ None → Sound c.volume (granted c m call bytes).next
-granted_sound c m s (Insert f at n) bytes e =
-    let ok = clear (reasons c m (Insert f at n) bytes) e in
-    insert_sound s f (leb-false _ _ ok.0) at n
-granted_sound c m s (Collapse f at n) bytes e =
-    let ok = clear (reasons c m (Collapse f at n) bytes) e in
-    collapse_sound s f (leb-false _ _ ok.0) at n
-granted_sound c m s (Punch f at n) bytes e =
-    let ok = clear (reasons c m (Punch f at n) bytes) e in
-    punch_sound s f (leb-false _ _ ok.0) at n
-granted_sound c m s (ReserveWhole f at n) bytes e =
-    let ok = clear (reasons c m (ReserveWhole f at n) bytes) e in
+pub granted_sound : (c : Config) (m : Model) → Sound c.volume m → (call : Call) (bytes : List ℕ) → Clear (reasons c m call bytes) → Sound c.volume (granted c m call bytes).next
+granted_sound c m s (Insert f at n) bytes ok = insert_sound s f (leb-false _ _ ok.0) at n
+granted_sound c m s (Collapse f at n) bytes ok = collapse_sound s f (leb-false _ _ ok.0) at n
+granted_sound c m s (Punch f at n) bytes ok = punch_sound s f (leb-false _ _ ok.0) at n
+granted_sound c m s (ReserveWhole f at n) bytes ok =
     let inside : at + n ≤ length (file m f) = ltb-false _ _ ok.1.1.0 in
     let fits : n ≤ most (free_runs c m) = ltb-false _ _ ok.1.1.1.1.0 in
     let long = whole_long (free_runs c m) n fits in
     reserve_sound s f (leb-false _ _ ok.0) at (blocks_of (whole n (free_runs c m)))
     (omega (arith, inside, long)) (rw long (not-false _ ok.1.1.1.0)) (λ b. whole_free m.free c.volume n b fits)
-granted_sound c m s (ReserveSplit f at n) bytes e =
-    let ok = clear (reasons c m (ReserveSplit f at n) bytes) e in
+granted_sound c m s (ReserveSplit f at n) bytes ok =
     let inside : at + n ≤ length (file m f) = ltb-false _ _ ok.1.1.0 in
     let fits : n ≤ total (free_runs c m) = ltb-false _ _ ok.1.1.1.1.0 in
     let long = split_long (free_runs c m) n fits in
     reserve_sound s f (leb-false _ _ ok.0) at (blocks_of (split n (free_runs c m)))
     (omega (arith, inside, long)) (rw long (not-false _ ok.1.1.1.0)) (λ b. split_free m.free c.volume n b)
-granted_sound c m s (Write f at) bytes e =
-    let ok = clear (reasons c m (Write f at) bytes) e in
-    write_sound s f (leb-false _ _ ok.0) at bytes (leb-false _ _ ok.1.0) ok.1.1.1.0
-granted_sound c m s (Read f at) bytes e = s
-granted_sound c m s (Find f at) bytes e = s
-granted_sound c m s (Length f) bytes e = s
-granted_sound c m s Tally bytes e = s
-granted_sound c m s (Map f) bytes e = s
-granted_sound c m s (Drop f) bytes e =
-    let ok = clear (reasons c m (Drop f) bytes) e in
-    empty_sound s f (leb-false _ _ ok.0)
+granted_sound c m s (Write f at) bytes ok = write_sound s f (leb-false _ _ ok.0) at bytes (leb-false _ _ ok.1.0) ok.1.1.1.0
+granted_sound c m s (Read f at) bytes ok = s
+granted_sound c m s (Find f at) bytes ok = s
+granted_sound c m s (Length f) bytes ok = s
+granted_sound c m s Tally bytes ok = s
+granted_sound c m s (Map f) bytes ok = s
+granted_sound c m s (Drop f) bytes ok = empty_sound s f (leb-false _ _ ok.0)
 
 pub step_sound : (c : Config) (m : Model) → Sound c.volume m → (call : Call) (bytes : List ℕ) → Sound c.volume (step c m call bytes).next
 step_sound c m s call bytes = step_both c m call bytes (λ o. Sound c.volume o.next) (λ why. s) (granted_sound c m s call bytes)

@@ -1,7 +1,8 @@
 -- What find, length, tally and map answer.
-use Rattle.std.proofs.Common.{◌≡◌, ℕ, zero, suc, ◌+◌, ◌<◌, ◌≤◌, Bool, true, false, cond, eqb, List, [], ◌∷◌, length, drop, count_by, sym, refl, ap, ◌∙◌, subst, ap₂, arith, length-drop}
+use Rattle.std.proofs.Common.{◌≡◌, ℕ, zero, suc, ◌+◌, ◌<◌, ◌≤◌, Bool, true, cond, List, [], ◌∷◌, length, drop, count_by, sym, refl, ap, ◌∙◌, subst, ap₂, arith, length-drop}
 use Rattle.std.proofs.lemmas.List.Sums.{sum_by-cons}
-use Rattle.std.proofs.lemmas.Bool.{le-leb, lt-leb, lt-ltb, le-ltb, cond_both}
+use Rattle.std.proofs.lemmas.Bool.Decides.{nat_tests}
+use Rattle.std.proofs.lemmas.Bool.{le-leb, lt-leb, le-ltb, cond_both}
 use Rattle.calls.specs.declared.call.Call.TheVariants.{Find, Tally}
 use Rattle.calls.specs.declared.answer.Answer.TheVariants.{Tallied}
 use Rattle.model.specs.Places.{Place}
@@ -30,7 +31,7 @@ record Leads (ps : List Place) (l : ℕ) : Type 0 where
   ends : cut ps l ≡ 0
 
 cut_one : (p q : Place) (qs : List Place) → cut (p ∷ q ∷ qs) 1 ≡ one_if (goes_on p.kind p.block q.kind q.block)
-cut_one p q qs = rw (lt-ltb 1 (suc (suc (length qs))) (omega arith))
+cut_one p q qs = grind (arith, nat_tests)
 
 -- one place more in front, in the same extent
 leads_more : (p q : Place) (qs : List Place) (l : ℕ) → goes_on p.kind p.block q.kind q.block ≡ true → Leads (q ∷ qs) l → Leads (p ∷ q ∷ qs) (suc l)
@@ -50,7 +51,7 @@ leads p (q ∷ qs) =
   where
     go : (e : Extent) (es : List Extent) → goes_on p.kind p.block e.kind e.block ≡ goes_on p.kind p.block q.kind q.block → Leads (q ∷ qs) e.count → Leads (p ∷ q ∷ qs) (leading_count (before p.kind p.block (e ∷ es)))
     go e es same ih =
-        cond_both (goes_on p.kind p.block e.kind e.block) (record { kind = p.kind; count = suc e.count; block = p.block } ∷ es) (record { kind = p.kind; count = 1; block = p.block } ∷ e ∷ es) (λ x. Leads (p ∷ q ∷ qs) (leading_count x))
+        cond_both (goes_on p.kind p.block e.kind e.block) _ _ (λ x. Leads (p ∷ q ∷ qs) (leading_count x))
         (λ on. leads_more p q qs e.count (sym same ∙ on) ih)
         (λ apart. record { some = omega arith; inside = omega arith; together = λ i lt. absurd (omega arith); ends = cut_one p q qs ∙ ap one_if (sym same ∙ apart) })
 
@@ -85,11 +86,7 @@ finds c m f at buffer lt under = go (leading_count (extents (drop at ps))) refl 
 
 -- the free blocks, counted
 total_before : (x : Bool) (s : ℕ) (rs : List Run) → total (run_before x s rs) ≡ one_if x + total rs
-total_before false s rs = omega arith
-total_before true s [] = refl
-total_before true s (r ∷ rs) =
-    cond_both (eqb (suc s) r.start) (record { start = s; count = suc r.count } ∷ rs) (record { start = s; count = 1 } ∷ r ∷ rs) (λ x. total x ≡ 1 + total (r ∷ rs))
-    (λ _. omega arith) (λ _. refl)
+total_before x s rs = grind (arith, nat_tests)
 
 runs_total : (free : Blocks) (s n : ℕ) → total (runs_from free s n) ≡ count_by free (row s n)
 runs_total free s zero = refl

@@ -1,5 +1,5 @@
 -- What each granted call does to its file, place by place.
-use Rattle.std.proofs.Common.{◌≡◌, ℕ, ◌+◌, ◌-◌, ◌<◌, ◌≤◌, true, List, [], length, get_or, drop, set, None, Result, sym, refl, ap, ◌∙◌, subst, arith, length-set}
+use Rattle.std.proofs.Common.{◌≡◌, ℕ, ◌+◌, ◌-◌, ◌<◌, ◌≤◌, true, List, [], length, get_or, drop, set, Result, sym, refl, ap, ◌∙◌, subst, arith, length-set}
 use Rattle.std.proofs.lemmas.List.{places, get_or-set_same, get_or-set_other}
 use Rattle.std.proofs.lemmas.Bool.{ltb-false, leb-false, not-false}
 use Rattle.calls.specs.declared.kind.Kind.TheVariants.{Hole, Written}
@@ -11,11 +11,11 @@ use Rattle.calls.specs.Answers.{answer_number}
 use Rattle.model.specs.Places.{Place, hole, all_holes, range, inserted, collapsed, punched, reserved}
 use Rattle.model.specs.Space.{total, most, split, whole, blocks_of}
 use Rattle.model.specs.Store.{Config, Model, file_count, file, place, free_runs}
-use Rattle.model.specs.Rules.{first, reasons, granted}
+use Rattle.model.specs.Rules.{reasons, granted}
 use Rattle.model.specs.Replay.{reached}
 use Rattle.model.specs.Limits.{Tidy, Within}
 use Rattle.model.specs.Ranges.{nth, Opened, Closed, Cleared, Backed, Stored, Plain, InPieces, Does, Changes, RangeCalls}
-use Rattle.model.proofs.Settled.{step_both, clear, refused_some}
+use Rattle.model.proofs.Settled.{Clear, step_both, refused_some}
 use Rattle.model.proofs.Changing.{length_reserved, reserved_bytes, laid_kind, laid_past, holes_in}
 use Rattle.model.proofs.Owners.{whole_long, split_long}
 use Rattle.model.proofs.Limits.{limits_kept}
@@ -52,35 +52,29 @@ module _ (c : Config) (m : Model) (w : Within c m) (f at n : ℕ) (buffer : List
   changed ps Change lt so = subst (Change (file m f)) (sym (get_or-set_same m.files f ps [] (omega (arith, w.files)))) so
 
   does : (call : Call) (Says : Result Answer Refusal → Type 0) (Change : List Place → List Place → Type 0)
-      → (first (reasons c m call buffer) ≡ None → Says (granted c m call buffer).answer × ((granted c m call buffer).buffer ≡ buffer) × Change (file m f) (file (granted c m call buffer).next f)) → Does c m call buffer f Says Change
+      → (Clear (reasons c m call buffer) → Says (granted c m call buffer).answer × ((granted c m call buffer).buffer ≡ buffer) × Change (file m f) (file (granted c m call buffer).next f)) → Does c m call buffer f Says Change
   does call Says Change done =
       step_both c m call buffer (λ o. answer_number o.answer ≡ 0 → Says o.answer × (o.buffer ≡ buffer) × Change (file m f) (file o.next f))
       (λ why zero. absurd (omega (arith, refused_some why, zero)))
-      (λ none _. done none)
+      (λ ok _. done ok)
 
   changes : Changes c m f at n buffer
   changes = record {
-    insert = does (Insert f at n) Plain (Opened at n) (λ none.
-        let ok = clear (reasons c m (Insert f at n) buffer) none in
+    insert = does (Insert f at n) Plain (Opened at n) (λ ok.
         (refl, refl, changed (inserted (file m f) at n) (Opened at n) (leb-false _ _ ok.0) (opened (file m f) at n (ltb-false _ _ ok.1.1.0))));
-    collapse = does (Collapse f at n) Plain (Closed at n) (λ none.
-        let ok = clear (reasons c m (Collapse f at n) buffer) none in
+    collapse = does (Collapse f at n) Plain (Closed at n) (λ ok.
         (refl, refl, changed (collapsed (file m f) at n) (Closed at n) (leb-false _ _ ok.0) (closed (file m f) at n (ltb-false _ _ ok.1.1.0))));
-    punch = does (Punch f at n) Plain (Cleared at n) (λ none.
-        let ok = clear (reasons c m (Punch f at n) buffer) none in
+    punch = does (Punch f at n) Plain (Cleared at n) (λ ok.
         (refl, refl, changed (punched (file m f) at n) (Cleared at n) (leb-false _ _ ok.0) (cleared (file m f) at n (ltb-false _ _ ok.1.1.0))));
-    reserve_whole = does (ReserveWhole f at n) InPieces (Backed at n) (λ none.
-        let ok = clear (reasons c m (ReserveWhole f at n) buffer) none in
+    reserve_whole = does (ReserveWhole f at n) InPieces (Backed at n) (λ ok.
         let bs = blocks_of (whole n (free_runs c m)) in
         let fits : n ≤ most (free_runs c m) = ltb-false _ _ ok.1.1.1.1.0 in
         ((1, refl), refl, changed (reserved (file m f) at bs) (Backed at n) (leb-false _ _ ok.0) (backed (file m f) at n bs (whole_long (free_runs c m) n fits) (ltb-false _ _ ok.1.1.0) (not-false _ ok.1.1.1.0) (w.tidy f))));
-    reserve_split = does (ReserveSplit f at n) InPieces (Backed at n) (λ none.
-        let ok = clear (reasons c m (ReserveSplit f at n) buffer) none in
+    reserve_split = does (ReserveSplit f at n) InPieces (Backed at n) (λ ok.
         let bs = blocks_of (split n (free_runs c m)) in
         let fits : n ≤ total (free_runs c m) = ltb-false _ _ ok.1.1.1.1.0 in
         ((length (split n (free_runs c m)), refl), refl, changed (reserved (file m f) at bs) (Backed at n) (leb-false _ _ ok.0) (backed (file m f) at n bs (split_long (free_runs c m) n fits) (ltb-false _ _ ok.1.1.0) (not-false _ ok.1.1.1.0) (w.tidy f))));
-    write = does (Write f at) Plain (Stored at buffer) (λ none.
-        let ok = clear (reasons c m (Write f at) buffer) none in
+    write = does (Write f at) Plain (Stored at buffer) (λ ok.
         let p : Place = record { kind = Written; block = (place m f at).block; bytes = buffer } in (
           refl,
           refl,
@@ -90,8 +84,7 @@ module _ (c : Config) (m : Model) (w : Within c m) (f at n : ℕ) (buffer : List
             elsewhere = λ k other. get_or-set_other (file m f) at k p hole other;
           }),
         ));
-    drop = does (Drop f) Plain (λ old new. new ≡ []) (λ none.
-        let ok = clear (reasons c m (Drop f) buffer) none in
+    drop = does (Drop f) Plain (λ old new. new ≡ []) (λ ok.
         (refl, refl, changed [] (λ old new. new ≡ []) (leb-false _ _ ok.0) refl));
   }
 

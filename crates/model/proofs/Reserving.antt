@@ -1,22 +1,20 @@
 -- What the answers to a reserve mean.
-use Rattle.std.proofs.Common.{◌≡◌, ℕ, ◌+◌, ◌<◌, ◌≤◌, List, [], ◌∷◌, map, length, take, drop, Ok, Result, sym, refl, ap, ◌∙◌, subst, arith, length-drop}
+use Rattle.std.proofs.Common.{◌≡◌, ℕ, ◌+◌, ◌<◌, ◌≤◌, List, [], ◌∷◌, map, length, take, drop, Ok, sym, refl, ap, ◌∙◌, subst, arith, length-drop}
 use Rattle.std.proofs.lemmas.List.{drop_at, length-take-le, get_or-set_same}
 use Rattle.std.proofs.lemmas.Bool.{ltb-false, leb-false}
 use Rattle.calls.specs.declared.call.Call.TheVariants.{ReserveWhole, ReserveSplit}
-use Rattle.calls.specs.declared.refusal.Refusal.{Refusal}
 use Rattle.calls.specs.declared.refusal.Refusal.TheVariants.{NoSpace, NoRun}
-use Rattle.calls.specs.declared.answer.Answer.{Answer}
 use Rattle.calls.specs.declared.answer.Answer.TheVariants.{Pieces}
 use Rattle.calls.specs.Answers.{answer_number}
 use Rattle.model.specs.Places.{Place, laid, reserved}
 use Rattle.model.specs.Space.{total, most, split, whole, blocks_of}
 use Rattle.model.specs.Store.{Config, Model, file_count, file, free_runs, reserve}
-use Rattle.model.specs.Rules.{reasons, step}
+use Rattle.model.specs.Rules.{step}
 use Rattle.model.specs.Replay.{reached}
 use Rattle.model.specs.Pieces.{Choice, AllFree, Fewest, laid_on, Reserves, FewestPieces}
 use Rattle.model.specs.Grounds.{Ground, no_space, no_run}
 use Rattle.model.proofs.Basics.{positive}
-use Rattle.model.proofs.Settled.{step_both, clear, refused_some}
+use Rattle.model.proofs.Settled.{step_both, refused_some}
 use Rattle.model.proofs.Owners.{Sound, reached_sound, split_long, whole_long, free_below}
 use Rattle.model.proofs.Fewest.{split_good, whole_good}
 use Rattle.model.proofs.Truth.{truthful}
@@ -37,22 +35,18 @@ on_places m f at n bs lt long fits =
     ∙ ap (λ k. map (λ (p : Place). p.block) (take k (laid bs (drop at ps)))) (sym long)
     ∙ laid_blocks bs (drop at ps) (omega (arith, length-drop at ps))
 
-same_pieces : {i j : ℕ} → ◌≡◌ {A = Result Answer Refusal} (Ok (Pieces i)) (Ok (Pieces j)) → i ≡ j
-same_pieces e = cc
-
 module _ (c : Config) (m : Model) (s : Sound c.volume m) (f at n : ℕ) (buffer : List ℕ) where
   split_granted : (k : ℕ) → (step c m (ReserveSplit f at n) buffer).answer ≡ Ok (Pieces k) → Fewest m.free n k (laid_on (step c m (ReserveSplit f at n) buffer).next f at n)
   split_granted k =
       step_both c m (ReserveSplit f at n) buffer (λ o. o.answer ≡ Ok (Pieces k) → Fewest m.free n k (laid_on o.next f at n))
       (λ w e. absurd (omega (arith, refused_some w, ap answer_number e)))
-      (λ none e.
-      let ok = clear (reasons c m (ReserveSplit f at n) buffer) none in
+      (λ ok e.
       let real : f < file_count = leb-false _ _ ok.0 in
       let pos : 0 < n = positive n ok.1.0 in
       let inside : at + n ≤ length (file m f) = ltb-false _ _ ok.1.1.0 in
       let fits : n ≤ total (free_runs c m) = ltb-false _ _ ok.1.1.1.1.0 in
       let bs = blocks_of (split n (free_runs c m)) in
-      let kk : length (split n (free_runs c m)) ≡ k = same_pieces e in
+      let kk : length (split n (free_runs c m)) ≡ k = cc in
       let places : laid_on (reserve m f at bs) f at n ≡ bs = on_places m f at n bs (omega (arith, real, s.sized)) (split_long (free_runs c m) n fits) inside in
       subst (λ l. Fewest m.free n k l) (sym places) (subst (λ j. Fewest m.free n j bs) kk (split_good m.free c.volume (free_below c m s) n pos fits)))
 
@@ -60,14 +54,13 @@ module _ (c : Config) (m : Model) (s : Sound c.volume m) (f at n : ℕ) (buffer 
   whole_granted k =
       step_both c m (ReserveWhole f at n) buffer (λ o. o.answer ≡ Ok (Pieces k) → (k ≡ 1) × Fewest m.free n k (laid_on o.next f at n))
       (λ w e. absurd (omega (arith, refused_some w, ap answer_number e)))
-      (λ none e.
-      let ok = clear (reasons c m (ReserveWhole f at n) buffer) none in
+      (λ ok e.
       let real : f < file_count = leb-false _ _ ok.0 in
       let pos : 0 < n = positive n ok.1.0 in
       let inside : at + n ≤ length (file m f) = ltb-false _ _ ok.1.1.0 in
       let fits : n ≤ most (free_runs c m) = ltb-false _ _ ok.1.1.1.1.0 in
       let bs = blocks_of (whole n (free_runs c m)) in
-      let kk : 1 ≡ k = same_pieces e in
+      let kk : 1 ≡ k = cc in
       let places : laid_on (reserve m f at bs) f at n ≡ bs = on_places m f at n bs (omega (arith, real, s.sized)) (whole_long (free_runs c m) n fits) inside in
       (sym kk, subst (λ l. Fewest m.free n k l) (sym places) (subst (λ j. Fewest m.free n j bs) kk (whole_good m.free c.volume (free_below c m s) n pos fits))))
 

@@ -7,13 +7,22 @@ use Rattle.calls.specs.Refusals.{refusal_number}
 use Rattle.model.specs.Store.{Config, Model}
 use Rattle.model.specs.Rules.{Outcome, Reason, first, reasons, granted, settled, refuses, step}
 
+-- no reason holds
+abbrev pub Clear : List Reason → Type 0
+Clear [] = Unit {0}
+Clear (r ∷ rs) = (r.holds ≡ false) × Clear rs
+
+clear : (rs : List Reason) → first rs ≡ None → Clear rs
+clear [] e = tt
+clear (r ∷ rs) e = grind (arith, clear rs)
+
 settled_both : (m : Model) (buffer : List ℕ) (o : Option Refusal) (g : Outcome) (P : Outcome → Type 0) → ((w : Refusal) → P (refuses m buffer w)) → (o ≡ None → P g) → P (settled m buffer o g)
 settled_both m buffer (Some w) g P refused done = refused w
 settled_both m buffer None g P refused done = done refl
 
--- what holds of a refused call and of a granted one holds of the call
-pub step_both : (c : Config) (m : Model) (call : Call) (buffer : List ℕ) (P : Outcome → Type 0) → ((w : Refusal) → P (refuses m buffer w)) → (first (reasons c m call buffer) ≡ None → P (granted c m call buffer)) → P (step c m call buffer)
-step_both c m call buffer P refused done = settled_both m buffer (first (reasons c m call buffer)) (granted c m call buffer) P refused done
+-- what holds of a refused call and of a granted one, for which no reason holds, holds of the call
+pub step_both : (c : Config) (m : Model) (call : Call) (buffer : List ℕ) (P : Outcome → Type 0) → ((w : Refusal) → P (refuses m buffer w)) → (Clear (reasons c m call buffer) → P (granted c m call buffer)) → P (step c m call buffer)
+step_both c m call buffer P refused done = settled_both m buffer (first (reasons c m call buffer)) (granted c m call buffer) P refused (λ none. done (clear (reasons c m call buffer) none))
 
 -- what is granted has number 0, and a refusal has not
 pub granted_zero : (c : Config) (m : Model) (call : Call) (buffer : List ℕ) → answer_number (granted c m call buffer).answer ≡ 0
@@ -35,15 +44,6 @@ settled_none m buffer o g e = grind (arith, refused_some)
 -- what a grant says of the reasons
 pub step_none : (c : Config) (m : Model) (call : Call) (buffer : List ℕ) → answer_number (step c m call buffer).answer ≡ 0 → first (reasons c m call buffer) ≡ None
 step_none c m call buffer e = settled_none m buffer (first (reasons c m call buffer)) (granted c m call buffer) e
-
--- no reason holds
-abbrev pub Clear : List Reason → Type 0
-Clear [] = Unit {0}
-Clear (r ∷ rs) = (r.holds ≡ false) × Clear rs
-
-pub clear : (rs : List Reason) → first rs ≡ None → Clear rs
-clear [] e = tt
-clear (r ∷ rs) e = grind (arith, clear rs)
 
 -- each reason that holds while none before it does has property G
 abbrev pub FirstHas : (Refusal → Type 0) → List Reason → Type 0

@@ -1,21 +1,18 @@
 -- A split takes as it is ruled: the longest run, and then the rest from what is left.
-use Rattle.std.proofs.Common.{◌≡◌, ℕ, zero, suc, ◌+◌, ◌-◌, ◌<◌, ◌≤◌, false, ◌&&◌, eqb, ltb, leb, List, [], ◌∷◌, length, sym, ap, subst, arith}
+use Rattle.std.proofs.Common.{◌≡◌, ℕ, zero, suc, ◌+◌, ◌-◌, ◌<◌, ◌≤◌, false, ◌&&◌, eqb, leb, List, [], ◌∷◌, length, sym, ap, subst, arith}
 use Rattle.std.proofs.lemmas.Bool.{leb-true, leb-false, cond_both}
 use Rattle.model.specs.Space.{Blocks, times, without, Run, runs, total, most, longest, others, split_up_to, whole, row, blocks_of}
 use Rattle.model.specs.Ownership.{one_if}
 use Rattle.model.specs.Pieces.{Taken, last, more}
 use Rattle.model.specs.Exact.{Rising}
 use Rattle.model.proofs.Basics.{without_one}
-use Rattle.model.proofs.Choosing.{parted, longest_count}
+use Rattle.model.proofs.Choosing.{some_run, parted, longest_count}
 use Rattle.model.proofs.ExactRuns.{rising_weaker, runs_exact}
 use Rattle.model.proofs.Rows.{no_row, whole_lowest, longest_row}
 
 others_rising : (v s : ℕ) (rs : List Run) → Rising v s rs → Rising v s (others rs)
 others_rising v s [] q = tt
-others_rising v s (r ∷ rs) q =
-    cond_both (ltb r.count (most rs)) (r ∷ others rs) rs (λ x. Rising v s x)
-    (λ _. (q.0, q.1, q.2, others_rising v (suc (r.start + r.count)) rs q.3))
-    (λ _. rising_weaker v (suc (r.start + r.count)) s rs (omega (arith, q.0)) q.3)
+others_rising v s (r ∷ rs) q = grind (arith, others_rising v (suc (r.start + r.count)) rs, rising_weaker v (suc (r.start + r.count)) s rs)
 
 -- without the longest run, the others are left
 others_left : (free : Blocks) (v : ℕ) → runs (without free (row (longest (runs free v)).start (longest (runs free v)).count)) v ≡ others (runs free v)
@@ -31,11 +28,7 @@ others_left free v =
         omega (arith, e, p, without_one (free b) (times (row l.start l.count) b) (omega (arith, e, p)))
 
 pub split_taken : (v k n : ℕ) (free : Blocks) → ((b : ℕ) → v ≤ b → free b ≡ false) → length (runs free v) ≤ k → 0 < n → n ≤ total (runs free v) → Taken free n (length (split_up_to k n (runs free v))) (blocks_of (split_up_to k n (runs free v)))
-split_taken v zero n free below short pos fits = absurd (none (runs free v) short fits)
-  where
-    none : (rs : List Run) → length rs ≤ 0 → n ≤ total rs → ⊥
-    none [] le fit = omega arith
-    none (r ∷ rs) le fit = omega arith
+split_taken v zero n free below short pos fits = absurd (omega (arith, some_run (runs free v)))
 split_taken v (suc k) n free below short pos fits =
     let rs = runs free v in
     let l = longest rs in

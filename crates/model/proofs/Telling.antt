@@ -1,5 +1,5 @@
 -- Contents by history: a place shows what the calls and their answers say.
-use Rattle.std.proofs.Common.{◌≡◌, ℕ, ◌+◌, ◌-◌, ◌<◌, ◌≤◌, Bool, cond, eqb, List, [], ◌∷◌, length, get_or, set, None, sym, refl, ap, ◌∙◌, arith, length-set}
+use Rattle.std.proofs.Common.{◌≡◌, ℕ, ◌+◌, ◌-◌, ◌<◌, ◌≤◌, Bool, cond, eqb, List, [], ◌∷◌, length, get_or, set, sym, refl, ap, ◌∙◌, arith, length-set}
 use Rattle.std.proofs.lemmas.Bool.Decides.{nat_tests}
 use Rattle.std.proofs.lemmas.List.{get_or-set_same, get_or-set_other, get_or-replicate}
 use Rattle.std.proofs.lemmas.Bool.{ltb-false, leb-false, lt-leb, eq-eqb, ne_eqb}
@@ -14,10 +14,10 @@ use Rattle.calls.specs.Refusals.{refusal_number}
 use Rattle.model.specs.Places.{Place, hole, inserted, collapsed, punched, reserved}
 use Rattle.model.specs.Space.{Blocks, split, whole, blocks_of}
 use Rattle.model.specs.Store.{Config, Model, file_count, fresh, file, place, with_file, free_runs, insert, collapse, punch, reserve, write, empty}
-use Rattle.model.specs.Rules.{leaves, first, reasons, granted, step}
+use Rattle.model.specs.Rules.{leaves, reasons, granted, step}
 use Rattle.model.specs.Replay.{Request, run, reached}
 use Rattle.model.specs.History.{granted_first, Origin, was, origin, traced, bytes_of, resized, length_of, Contents}
-use Rattle.model.proofs.Settled.{step_both, clear, granted_zero, refused_some}
+use Rattle.model.proofs.Settled.{Clear, step_both, granted_zero, refused_some}
 use Rattle.model.proofs.Changing.{length_inserted, length_collapsed, length_punched, length_reserved, inserted_at, collapsed_at, punched_at, reserved_bytes}
 
 -- the store agrees with a history
@@ -94,35 +94,23 @@ unchanged {m = m} {past = past} a q size stays = record {
   shows = λ f k lt under. a.shows f k lt under ∙ kept_cond (concerns q.call f) (bytes_of past f) (origin q.call q.buffer k) k (stays k);
 }
 
-granted_told : (c : Config) (m : Model) (past : List Request) → Agrees m past → (call : Call) (buffer : List ℕ) → first (reasons c m call buffer) ≡ None → Agrees (granted c m call buffer).next (record { call = call; buffer = buffer } ∷ past)
-granted_told c m past a (Insert f at n) buffer e =
-    let ok = clear (reasons c m (Insert f at n) buffer) e in
-    insert_told a f (leb-false _ _ ok.0) buffer at n (ltb-false _ _ ok.1.1.0)
-granted_told c m past a (Collapse f at n) buffer e =
-    let ok = clear (reasons c m (Collapse f at n) buffer) e in
-    collapse_told a f (leb-false _ _ ok.0) buffer at n (ltb-false _ _ ok.1.1.0)
-granted_told c m past a (Punch f at n) buffer e =
-    let ok = clear (reasons c m (Punch f at n) buffer) e in
-    punch_told a f (leb-false _ _ ok.0) buffer at n (ltb-false _ _ ok.1.1.0)
-granted_told c m past a (ReserveWhole f at n) buffer e =
-    let ok = clear (reasons c m (ReserveWhole f at n) buffer) e in
+granted_told : (c : Config) (m : Model) (past : List Request) → Agrees m past → (call : Call) (buffer : List ℕ) → Clear (reasons c m call buffer) → Agrees (granted c m call buffer).next (record { call = call; buffer = buffer } ∷ past)
+granted_told c m past a (Insert f at n) buffer ok = insert_told a f (leb-false _ _ ok.0) buffer at n (ltb-false _ _ ok.1.1.0)
+granted_told c m past a (Collapse f at n) buffer ok = collapse_told a f (leb-false _ _ ok.0) buffer at n (ltb-false _ _ ok.1.1.0)
+granted_told c m past a (Punch f at n) buffer ok = punch_told a f (leb-false _ _ ok.0) buffer at n (ltb-false _ _ ok.1.1.0)
+granted_told c m past a (ReserveWhole f at n) buffer ok =
     let fits : at + n ≤ length (file m f) = ltb-false _ _ ok.1.1.0 in
     reserve_told a f (leb-false _ _ ok.0) buffer (ReserveWhole f at n) at (blocks_of (whole n (free_runs c m))) (λ g. refl) (λ l. refl) (λ k. refl) (omega (arith, fits))
-granted_told c m past a (ReserveSplit f at n) buffer e =
-    let ok = clear (reasons c m (ReserveSplit f at n) buffer) e in
+granted_told c m past a (ReserveSplit f at n) buffer ok =
     let fits : at + n ≤ length (file m f) = ltb-false _ _ ok.1.1.0 in
     reserve_told a f (leb-false _ _ ok.0) buffer (ReserveSplit f at n) at (blocks_of (split n (free_runs c m))) (λ g. refl) (λ l. refl) (λ k. refl) (omega (arith, fits))
-granted_told c m past a (Write f at) buffer e =
-    let ok = clear (reasons c m (Write f at) buffer) e in
-    write_told a f (leb-false _ _ ok.0) buffer at (leb-false _ _ ok.1.0)
-granted_told c m past a (Read f at) buffer e = unchanged a (record { call = Read f at; buffer = buffer }) (λ l. refl) (λ k. refl)
-granted_told c m past a (Find f at) buffer e = unchanged a (record { call = Find f at; buffer = buffer }) (λ l. refl) (λ k. refl)
-granted_told c m past a (Length f) buffer e = unchanged a (record { call = Length f; buffer = buffer }) (λ l. refl) (λ k. refl)
-granted_told c m past a Tally buffer e = unchanged a (record { call = Tally; buffer = buffer }) (λ l. refl) (λ k. refl)
-granted_told c m past a (Map f) buffer e = unchanged a (record { call = Map f; buffer = buffer }) (λ l. refl) (λ k. refl)
-granted_told c m past a (Drop f) buffer e =
-    let ok = clear (reasons c m (Drop f) buffer) e in
-    drop_told a f (leb-false _ _ ok.0) buffer
+granted_told c m past a (Write f at) buffer ok = write_told a f (leb-false _ _ ok.0) buffer at (leb-false _ _ ok.1.0)
+granted_told c m past a (Read f at) buffer ok = unchanged a (record { call = Read f at; buffer = buffer }) (λ l. refl) (λ k. refl)
+granted_told c m past a (Find f at) buffer ok = unchanged a (record { call = Find f at; buffer = buffer }) (λ l. refl) (λ k. refl)
+granted_told c m past a (Length f) buffer ok = unchanged a (record { call = Length f; buffer = buffer }) (λ l. refl) (λ k. refl)
+granted_told c m past a Tally buffer ok = unchanged a (record { call = Tally; buffer = buffer }) (λ l. refl) (λ k. refl)
+granted_told c m past a (Map f) buffer ok = unchanged a (record { call = Map f; buffer = buffer }) (λ l. refl) (λ k. refl)
+granted_told c m past a (Drop f) buffer ok = drop_told a f (leb-false _ _ ok.0) buffer
 
 step_told : (c : Config) (m : Model) (past : List Request) → Agrees m past → (q : Request) → Agrees (step c m q.call q.buffer).next (cond (eqb (answer_number (step c m q.call q.buffer).answer) 0) (q ∷ past) past)
 step_told c m past a q =

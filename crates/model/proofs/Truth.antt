@@ -1,15 +1,14 @@
 -- A call is refused for the first ground that holds, and granted where none does.
-use Rattle.std.proofs.Common.{◌≡◌, ℕ, zero, suc, ◌+◌, ◌-◌, ◌<◌, ◌≤◌, Bool, true, false, cond, ◌&&◌, eqb, ltb, leb, ◌⊎◌, List, [], ◌∷◌, length, get_or, take, Some, None, sym, refl, ap, ◌∙◌, ⊎_elim, arith}
-use Rattle.std.proofs.lemmas.Bool.{ltb-true, ltb-false, leb-true, eq-eqb, eqb-true, eqb-false, and_parts, not-true, false≢true, cases_lt, cases_Bool, and_cases}
-use Rattle.calls.specs.declared.kind.Kind.{Kind}
+use Rattle.std.proofs.Common.{◌≡◌, ℕ, zero, suc, ◌+◌, ◌-◌, ◌<◌, ◌≤◌, Bool, true, false, ◌&&◌, eqb, ltb, leb, ◌⊎◌, List, [], ◌∷◌, length, get_or, take, Some, None, refl, ap, ◌∙◌, ⊎_elim, arith}
+use Rattle.std.proofs.lemmas.Bool.{ltb-true, ltb-false, leb-true, eq-eqb, eqb-true, eqb-false, and_parts, not-true, cases_lt, cases_Bool, and_cases}
 use Rattle.calls.specs.declared.kind.Kind.TheVariants.{Hole}
 use Rattle.calls.specs.declared.call.Call.{Call}
 use Rattle.calls.specs.declared.call.Call.TheVariants.{Insert, Collapse, Punch, ReserveWhole, ReserveSplit, Write, Read, Find, Length, Tally, Map, Drop}
 use Rattle.calls.specs.declared.refusal.Refusal.{Refusal}
-use Rattle.calls.specs.declared.refusal.Refusal.TheVariants.{NoFile, NoCount, OutOfFile, NoEntries}
+use Rattle.calls.specs.declared.refusal.Refusal.TheVariants.{NoFile, NoCount, OutOfFile}
 use Rattle.calls.specs.Calls.{concerns}
 use Rattle.calls.specs.Refusals.{refusal_number}
-use Rattle.model.specs.Places.{Place, hole, is_hole, is_reserved, all_holes, range}
+use Rattle.model.specs.Places.{Place, hole, is_hole, all_holes, range}
 use Rattle.model.specs.Space.{total, most, longest, split, blocks_of, most_pieces}
 use Rattle.model.specs.Store.{Config, Model, file_count, file, place, spare, both_cuts, free_runs}
 use Rattle.model.specs.Rules.{Reason, first, reasons}
@@ -62,19 +61,16 @@ record Solid (ps : List Place) (at n : ℕ) : Type 0 where
   solid : (get_or ps at_place hole).kind ≡ Hole → ⊥
 
 some_solid : (ps : List Place) (at n : ℕ) → all_holes (range ps at n) ≡ false → Solid ps at n
-some_solid ps zero zero e = grind arith
+some_solid ps at zero e = grind arith
 some_solid [] zero (suc n) e = grind arith
+some_solid [] (suc at) (suc n) e = grind arith
 some_solid (p ∷ ps) zero (suc n) e =
     ⊎_elim
     (λ h. record { at_place = 0; from = omega arith; below = omega arith; solid = grind arith })
     (λ e'. let s = some_solid ps 0 n e' in record { at_place = suc s.at_place; from = omega arith; below = omega (arith, s.below); solid = s.solid })
     (and_cases (is_hole p.kind) (all_holes (take n ps)) e)
-some_solid [] (suc at) n e = absurd (false≢true (sym e ∙ none n))
-  where
-    none : (n : ℕ) → all_holes (take n []) ≡ true
-    none zero = refl
-    none (suc n) = refl
-some_solid (p ∷ ps) (suc at) n e = let s = some_solid ps at n e in record { at_place = suc s.at_place; from = omega (arith, s.from); below = omega (arith, s.below); solid = s.solid }
+some_solid (p ∷ ps) (suc at) (suc n) e =
+    let s = some_solid ps at (suc n) e in record { at_place = suc s.at_place; from = omega (arith, s.from); below = omega (arith, s.below); solid = s.solid }
 
 self : (f : ℕ) → eqb f f ≡ true
 self f = eq-eqb f f refl
@@ -94,7 +90,7 @@ module _ (c : Config) (m : Model) (s : Sound c.volume m) where
   below = free_below c m s
 
   space_reason : (n : ℕ) → ((bs : List ℕ) → Choice m.free n bs → ⊥) → total (free_runs c m) < n
-  space_reason n none = ⊎_elim (λ lt. lt) (λ le. absurd (none (blocks_of (split n (free_runs c m))) (split_choice m.free c.volume below n le))) (cases_lt (total (free_runs c m)) n)
+  space_reason n none = grind (arith, none (blocks_of (split n (free_runs c m))), split_choice m.free c.volume below n)
 
   run_reason : (n : ℕ) → ((b : ℕ) → AllFree m.free b n → ⊥) → most (free_runs c m) < n
   run_reason n none =
@@ -192,15 +188,12 @@ module _ (c : Config) (m : Model) (s : Sound c.volume m) where
         λ _. (
           λ h. write_kind (hole_is (place m f at).kind h),
           λ _. (
-            λ h. entries (place m f at).kind refl h,
+            λ h. grind (arith, nat_tests, write_entries),
             λ _.
                 (λ h. worn h, λ _. tt),
           ),
         ),
       )
-    where
-      entries : (k : Kind) → (place m f at).kind ≡ k → ltb (spare c m) (cond (is_reserved k) (both_cuts m f at 1) 0) ≡ true → Ground c m (Write f at) buffer NoEntries
-      entries k e h = grind (arith, nat_tests, write_entries)
   grounds (Read f at) buffer = on_place (Read f at) buffer f at (self f) refl (λ h. read_buffer (eqb-false _ _ (not-true _ h)), λ _. tt)
   grounds (Find f at) buffer = on_place (Find f at) buffer f at (self f) refl tt
   grounds (Length f) buffer = (λ h. no_file f (self f) (leb-true _ _ h), λ _. tt)
