@@ -1,13 +1,12 @@
 -- Build is granted just where it is allowed.
-use Rattle.std.proofs.Common.{◌≡◌, ℕ, suc, Bool, true, false, ◌||◌, [], refl, ⊎_elim, arith}
+use Rattle.std.proofs.Common.{◌≡◌, ℕ, suc, Bool, true, false, ◌||◌, ⊎_elim, arith}
 use Rattle.std.proofs.lemmas.Bool.Decides.{nat_tests}
 use Rattle.std.proofs.lemmas.Bool.{lt-ltb, le-ltb, cases_Bool}
 use Rattle.card.specs.Sizes.{most_blocks}
-use Rattle.model.specs.Store.{file_count}
 use Rattle.model.specs.Rules.{outside, most_extent_entries, most_run_entries}
 use Rattle.model.specs.Limits.{Allowed, Builds}
 use Rattle.model.proofs.ExactRuns.{fresh_runs}
-use Rattle.model.proofs.Limits.{fresh_files}
+use Rattle.model.proofs.Limits.{fresh_file}
 
 -- the test that build makes of its sizes
 abbrev refused : ℕ → ℕ → ℕ → Bool
@@ -21,7 +20,7 @@ passes_allowed v e r q = grind (arith, nat_tests)
 
 pub builds : Builds
 builds = record {
-  files = λ v f. fresh_files (λ ps. ps ≡ []) refl file_count f;
+  files = fresh_file;
   one_run = fresh_runs;
   granted = λ v e r n ok le. let a = allowed_passes v e r ok in let b = le-ltb n v le in rw (a, b);
   small = λ v e r n ok lt. let a = allowed_passes v e r ok in let b = lt-ltb n v lt in rw (a, b);

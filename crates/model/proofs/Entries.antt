@@ -1,8 +1,8 @@
 -- The extents never outnumber the entries of the table.
-use Rattle.std.proofs.Common.{◌≡◌, ℕ, zero, suc, ◌+◌, ◌<◌, ◌≤◌, eqb, List, [], ◌∷◌, ◌++◌, length, get_or, take, drop, set, replicate, refl, ap, ◌∙◌, ap₂, arith, length-drop, take-append-drop, length-take}
+use Rattle.std.proofs.Common.{◌≡◌, ℕ, zero, suc, ◌+◌, ◌<◌, ◌≤◌, List, [], ◌∷◌, ◌++◌, length, get_or, take, drop, set, replicate, refl, ap, ◌∙◌, ap₂, arith, length-drop, take-append-drop, length-take}
 use Rattle.std.proofs.lemmas.Bool.Decides.{nat_tests}
 use Rattle.std.proofs.lemmas.List.{places, drop-drop, set_split}
-use Rattle.std.proofs.lemmas.Bool.{eq-eqb, cond_both}
+use Rattle.std.proofs.lemmas.Bool.{cond_both}
 use Rattle.calls.specs.declared.kind.Kind.{Kind}
 use Rattle.calls.specs.declared.kind.Kind.TheVariants.{Reserved}
 use Rattle.model.specs.Places.{Place, hole, range, inserted, collapsed, punched, laid, reserved}
@@ -72,16 +72,19 @@ cut_join (p ∷ []) (suc (suc i)) = cut_past (p ∷ []) (suc i) (omega arith)
 cut_join (p ∷ q ∷ qs) (suc zero) = grind (arith, nat_tests)
 cut_join (p ∷ q ∷ qs) (suc (suc i)) = cut_cons p (q ∷ qs) i ∙ cut_join (q ∷ qs) (suc i)
 
-pub cut_drop : (ps : List Place) (at i : ℕ) → cut (drop at ps) (suc i) ≡ cut ps (suc (at + i))
-cut_drop ps at i = grind (arith, nat_tests, places)
+cut_from : (ps : List Place) (at i : ℕ) → cut (drop at ps) (suc i) ≡ cut ps (suc (at + i))
+cut_from ps at i = grind (arith, nat_tests, places)
+
+pub cut_drop : (ps : List Place) (at i : ℕ) → 0 < i → cut (drop at ps) i ≡ cut ps (at + i)
+cut_drop ps at zero pos = absurd (omega arith)
+cut_drop ps at (suc i) pos = rw (let e : at + suc i ≡ suc (at + i) = omega arith in e) (cut_from ps at i)
 
 -- the front, the range and the rest of a list of places
 pub cut_once : (ps : List Place) (at : ℕ) → ext (take at ps) + ext (drop at ps) ≡ ext ps + cut ps at
 cut_once ps at = grind (arith, ext_append (take at ps) (drop at ps), take-append-drop at ps, cut_join ps at)
 
 pub cut_twice : (ps : List Place) (at n : ℕ) → 0 < n → ext (take at ps) + (ext (range ps at n) + ext (drop n (drop at ps))) ≡ ext ps + (cut ps at + cut ps (at + n))
-cut_twice ps at zero pos = absurd (omega arith)
-cut_twice ps at (suc i) pos = omega (arith, cut_once ps at, cut_once (drop at ps) (suc i), cut_drop ps at i, ap (cut ps) (let e : suc (at + i) ≡ at + suc i = omega arith in e))
+cut_twice ps at n pos = omega (arith, cut_once ps at, cut_once (drop at ps) n, cut_drop ps at n pos)
 
 ext_holes : (n : ℕ) → ext (replicate n hole) ≤ 1
 ext_holes zero = omega arith
@@ -95,36 +98,33 @@ laid_row s (suc l) cs [] = omega arith
 laid_row s (suc zero) cs (p ∷ ps) = omega (arith, ext_cons (record { kind = Reserved; block = s; bytes = p.bytes }) (laid cs ps))
 laid_row s (suc (suc l)) cs (p ∷ []) = omega (arith, ext_cons (record { kind = Reserved; block = s; bytes = p.bytes }) [])
 laid_row s (suc (suc l)) cs (p ∷ q ∷ ps) =
-    let one : one_if (eqb (suc s) (suc s)) ≡ 1 = ap one_if (eq-eqb (suc s) (suc s) refl) in
-    omega (arith, laid_row (suc s) (suc l) cs (q ∷ ps), ext_cons (record { kind = Reserved; block = s; bytes = p.bytes }) (laid (row (suc s) (suc l) ++ cs) (q ∷ ps)), one)
+    grind (arith, nat_tests, laid_row (suc s) (suc l) cs (q ∷ ps), ext_cons (record { kind = Reserved; block = s; bytes = p.bytes }) (laid (row (suc s) (suc l) ++ cs) (q ∷ ps)))
 
 pub laid_runs : (qs : List Run) (ps : List Place) → ext (laid (blocks_of qs) ps) ≤ length qs + ext (drop (total qs) ps)
 laid_runs [] ps = omega arith
-laid_runs (q ∷ qs) ps = omega (arith, laid_row q.start q.count (blocks_of qs) ps, laid_runs qs (drop q.count ps), ap ext (drop-drop (total qs) q.count ps))
+laid_runs (q ∷ qs) ps = grind (arith, laid_row q.start q.count (blocks_of qs) ps, laid_runs qs (drop q.count ps), drop-drop (total qs) q.count ps)
 
 -- each change needs no more entries than the rules ask for
 module _ (ps : List Place) (at n : ℕ) where
   pub inserted_ext : ext (inserted ps at n) ≤ ext ps + (cut ps at + 1)
-  inserted_ext = omega (arith, ext_append_le (take at ps) (replicate n hole ++ drop at ps), ext_append_le (replicate n hole) (drop at ps), ext_holes n, cut_once ps at)
+  inserted_ext = omega (arith, ext_append_le, ext_holes n, cut_once ps at)
 
   pub collapsed_ext : 0 < n → ext (collapsed ps at n) ≤ ext ps + (cut ps at + cut ps (at + n))
-  collapsed_ext pos = omega (arith, ext_append_le (take at ps) (drop n (drop at ps)), cut_twice ps at n pos)
+  collapsed_ext pos = omega (arith, ext_append_le, cut_twice ps at n pos)
 
   some_range : 0 < n → at + n ≤ length ps → 1 ≤ ext (range ps at n)
   some_range pos le = ext_some (range ps at n) (omega (arith, length-take n (drop at ps), length-drop at ps))
 
   pub punched_ext : 0 < n → at + n ≤ length ps → ext (punched ps at n) ≤ ext ps + (cut ps at + cut ps (at + n))
-  punched_ext pos le = omega (arith, ext_append_le (take at ps) (replicate n hole ++ drop n (drop at ps)), ext_append_le (replicate n hole) (drop n (drop at ps)), ext_holes n, cut_twice ps at n pos, some_range pos le)
+  punched_ext pos le = omega (arith, ext_append_le, ext_holes n, cut_twice ps at n pos, some_range pos le)
 
   pub reserved_ext : (qs : List Run) → total qs ≡ n → 0 < n → at + n ≤ length ps → ext (reserved ps at (blocks_of qs)) + 1 ≤ ext ps + (cut ps at + cut ps (at + n)) + length qs
-  reserved_ext qs all pos le = omega (arith, ext_append_le (take at ps) (laid (blocks_of qs) (drop at ps)), laid_runs qs (drop at ps), ap (λ j. ext (drop j (drop at ps))) all, cut_twice ps at n pos, some_range pos le)
+  reserved_ext qs all pos le = grind (arith, ext_append_le (take at ps) (laid (blocks_of qs) (drop at ps)), laid_runs qs (drop at ps), cut_twice ps at n pos, some_range pos le)
 
 pub set_ext : (ps : List Place) (at : ℕ) (p : Place) → at < length ps → ext (set ps at p) ≤ ext ps + (cut ps at + cut ps (at + 1))
 set_ext ps at p lt =
-    let s = ap ext (set_split ps at p lt) in
-    let d = ap ext (drop-drop 1 at ps) in
-    let e = ap (λ j. ext (drop j ps)) (let q : at + 1 ≡ suc at = omega arith in q) in
-    omega (arith, s, d, e, ext_append_le (take at ps) (p ∷ drop (suc at) ps), ext_cons p (drop (suc at) ps), cut_twice ps at 1 (omega arith), some_range ps at 1 (omega arith) (omega arith))
+    let rest = drop (suc at) ps in
+    grind (arith, set_split ps at p lt, drop-drop 1 at ps, ext_append_le (take at ps) (p ∷ rest), ext_cons p rest, cut_twice ps at 1, some_range ps at 1)
 
 -- a place of the same kind on the same block
 pub set_same : (ps : List Place) (at : ℕ) (p : Place) → at < length ps → p.kind ≡ (get_or ps at hole).kind → p.block ≡ (get_or ps at hole).block → extents (set ps at p) ≡ extents ps

@@ -1,5 +1,5 @@
 -- The free runs are the only rising rows that have just the free blocks.
-use Rattle.std.proofs.Common.{◌≡◌, ℕ, zero, suc, ◌+◌, ◌<◌, ◌≤◌, Bool, true, false, cond, eqb, ltb, List, [], ◌∷◌, sym, refl, ap, ◌∙◌, subst, ap₂, ⊎_elim, arith}
+use Rattle.std.proofs.Common.{◌≡◌, ℕ, zero, suc, ◌+◌, ◌<◌, ◌≤◌, Bool, true, false, cond, eqb, ltb, List, [], ◌∷◌, sym, refl, ap, ◌∙◌, ⊎_elim, arith}
 use Rattle.std.proofs.lemmas.Bool.Decides.{nat_tests}
 use Rattle.std.proofs.lemmas.Bool.{lt-ltb, cases_lt}
 use Rattle.model.specs.Space.{Blocks, times, Run, run_before, runs_from, runs, row, blocks_of}
@@ -43,38 +43,41 @@ before_gap v s (r ∷ rs) q = grind (arith, nat_tests)
 before_touching : (s n : ℕ) (rs : List Run) → run_before true s (record { start = suc s; count = n } ∷ rs) ≡ record { start = s; count = suc n } ∷ rs
 before_touching s n rs = grind (arith, nat_tests)
 
-runs_only : (free : Blocks) (v n s : ℕ) (rs : List Run) → s + n ≡ v → Rising v s rs → ((b : ℕ) → s ≤ b → b < v → times (blocks_of rs) b ≡ one_if (free b)) → runs_from free s n ≡ rs
+-- the runs have just the free blocks from s up to v
+abbrev Just : Blocks → ℕ → ℕ → List Run → Type 0
+Just free s v rs = (b : ℕ) → s ≤ b → b < v → times (blocks_of rs) b ≡ one_if (free b)
+
+-- a run that begins at s, if all behind it is as it should be
+first_run : (free : Blocks) (v n s c : ℕ) (rs : List Run) → Rising v s (record { start = s; count = c } ∷ rs) → Just free s v (record { start = s; count = c } ∷ rs)
+    → ((l : List Run) → Rising v (suc s) l → Just free (suc s) v l → runs_from free (suc s) n ≡ l) → run_before (free s) s (runs_from free (suc s) n) ≡ record { start = s; count = c } ∷ rs
+first_run free v n s zero rs q just ih = absurd (omega (arith, q.1))
+first_run free v n s (suc zero) rs q just ih =
+    let open_here : free s ≡ true = grind (arith, nat_tests, just s, times_cons s (blocks_of rs) s) in
+    let later = ih rs (rising_weaker v (suc (s + 1)) (suc s) rs (omega arith) q.3) (λ b le lt. grind (arith, nat_tests, times_cons s (blocks_of rs) b, just b)) in
+    rw (open_here, later) (before_gap v s rs q.3)
+first_run free v n s (suc (suc c)) rs q just ih =
+    let l : List Run = record { start = suc s; count = suc c } ∷ rs in
+    let open_here : free s ≡ true = grind (arith, nat_tests, just s, times_cons s (blocks_of l) s) in
+    let up : Rising v (suc s) l = (omega arith, omega arith, omega (arith, q.2), rising_weaker v (suc (s + suc (suc c))) (suc (suc s + suc c)) rs (omega arith) q.3) in
+    let later = ih l up (λ b le lt. grind (arith, nat_tests, times_cons s (blocks_of l) b, just b)) in
+    rw (open_here, later) (before_touching s (suc c) rs)
+
+runs_only : (free : Blocks) (v n s : ℕ) (rs : List Run) → s + n ≡ v → Rising v s rs → Just free s v rs → runs_from free s n ≡ rs
 runs_only free v zero s [] e r all = refl
 runs_only free v zero s (r ∷ rs) e q all = absurd (omega (arith, q.0, q.1, q.2))
 runs_only free v (suc n) s [] e r all =
-    ap₂ (λ x l. run_before x s l) (is_false (free s) (sym (all s (omega arith) (omega arith)))) (runs_only free v n (suc s) [] (omega arith) tt (λ b le lt. all b (omega arith) lt))
+    let shut = is_false (free s) (sym (all s (omega arith) (omega arith))) in
+    rw (shut, runs_only free v n (suc s) [] (omega arith) tt (λ b le lt. all b (omega arith) lt))
 runs_only free v (suc n) s (r ∷ rs) e q all =
     ⊎_elim
     (λ lt.
     let higher : Rising v (suc s) (r ∷ rs) = (lt, q.1, q.2, q.3) in
     let shut = is_false (free s) (sym (all s (omega arith) (omega arith)) ∙ rising_none v (suc s) s (r ∷ rs) higher (omega arith)) in
-    ap₂ (λ x l. run_before x s l) shut (runs_only free v n (suc s) (r ∷ rs) (omega arith) higher (λ b le lt'. all b (omega arith) lt')))
-    (λ ge. here r.start r.count (let same : r.start ≡ s = omega (arith, q.0) in same) q all (λ l rise just. runs_only free v n (suc s) l (omega arith) rise just))
+    rw (shut, runs_only free v n (suc s) (r ∷ rs) (omega arith) higher (λ b le lt'. all b (omega arith) lt')))
+    (λ ge.
+    let same : s ≡ r.start = omega (arith, q.0) in
+    rw same (first_run free v n r.start r.count rs (omega arith, q.1, q.2, q.3) (λ b le lt. all b (omega arith) lt) (λ l rise just. runs_only free v n (suc r.start) l (omega arith) rise just)))
     (cases_lt s r.start)
-  where
-    behind : (c : ℕ) (l : List Run) → ((b : ℕ) → s ≤ b → b < v → times (s ∷ blocks_of l) b ≡ one_if (free b)) → (b : ℕ) → suc s ≤ b → b < v → times (blocks_of l) b ≡ one_if (free b)
-    behind c l just b le lt = grind (arith, nat_tests, times_cons s (blocks_of l) b, just b)
-
-    open_at : (l : List ℕ) → ((b : ℕ) → s ≤ b → b < v → times (s ∷ l) b ≡ one_if (free b)) → free s ≡ true
-    open_at l just = grind (arith, nat_tests, just s, times_cons s l s)
-
-    at_s : (c : ℕ) → Rising v s (record { start = s; count = c } ∷ rs) → ((b : ℕ) → s ≤ b → b < v → times (blocks_of (record { start = s; count = c } ∷ rs)) b ≡ one_if (free b)) → ((l : List Run) → Rising v (suc s) l → ((b : ℕ) → suc s ≤ b → b < v → times (blocks_of l) b ≡ one_if (free b)) → runs_from free (suc s) n ≡ l) → run_before (free s) s (runs_from free (suc s) n) ≡ record { start = s; count = c } ∷ rs
-    at_s zero q just ih = absurd (omega (arith, q.1))
-    at_s (suc zero) q just ih =
-        ap₂ (λ x l. run_before x s l) (open_at (blocks_of rs) just) (ih rs (rising_weaker v (suc (s + 1)) (suc s) rs (omega arith) q.3) (behind 0 rs just)) ∙ before_gap v s rs q.3
-    at_s (suc (suc c)) q just ih =
-        let l : List Run = record { start = suc s; count = suc c } ∷ rs in
-        ap₂ (λ x l. run_before x s l) (open_at (blocks_of l) just) (ih l (omega arith, omega arith, omega (arith, q.2), rising_weaker v (suc (s + suc (suc c))) (suc (suc s + suc c)) rs (omega arith) q.3) (behind 0 l just)) ∙ before_touching s (suc c) rs
-
-    here : (a c : ℕ) → a ≡ s → Rising v s (record { start = a; count = c } ∷ rs) → ((b : ℕ) → s ≤ b → b < v → times (blocks_of (record { start = a; count = c } ∷ rs)) b ≡ one_if (free b)) → ((l : List Run) → Rising v (suc s) l → ((b : ℕ) → suc s ≤ b → b < v → times (blocks_of l) b ≡ one_if (free b)) → runs_from free (suc s) n ≡ l) → run_before (free s) s (runs_from free (suc s) n) ≡ record { start = a; count = c } ∷ rs
-    here a c same q just ih =
-        at_s c (subst (λ x. Rising v s (record { start = x; count = c } ∷ rs)) same q) (subst (λ x. (b : ℕ) → s ≤ b → b < v → times (blocks_of (record { start = x; count = c } ∷ rs)) b ≡ one_if (free b)) same just) ih
-        ∙ ap (λ (x : ℕ). record { start = x; count = c } ∷ rs) (sym same)
 
 pub runs_exact : RunsExact
 runs_exact = record {

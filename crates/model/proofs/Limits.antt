@@ -3,18 +3,17 @@ use Rattle.std.proofs.Common.{◌≡◌, ℕ, zero, suc, ◌+◌, ◌-◌, ◌<�
 use Rattle.std.proofs.lemmas.List.Sums.{sum_by-set}
 use Rattle.std.proofs.lemmas.List.{places, get_or-set_same, get_or-set_other, get_or-drop}
 use Rattle.std.proofs.lemmas.Bool.{ltb-false, leb-false, eqb-true, and_parts, not-false, cases_eq, cases_lt}
-use Rattle.calls.specs.declared.kind.Kind.{Kind}
 use Rattle.calls.specs.declared.kind.Kind.TheVariants.{Written}
 use Rattle.calls.specs.declared.call.Call.{Call}
 use Rattle.calls.specs.declared.call.Call.TheVariants.{Insert, Collapse, Punch, ReserveWhole, ReserveSplit, Write, Read, Find, Length, Tally, Map, Drop}
-use Rattle.model.specs.Places.{Place, hole, zeros, is_hole, is_reserved, all_holes, range, inserted, collapsed, punched, laid, reserved}
+use Rattle.model.specs.Places.{Place, hole, is_hole, is_reserved, all_holes, range, inserted, collapsed, punched, laid, reserved}
 use Rattle.model.specs.Extents.{extents, cut}
 use Rattle.model.specs.Space.{Blocks, Run, total, most, split, whole, blocks_of}
 use Rattle.card.specs.Sizes.{block_size}
 use Rattle.model.specs.Store.{Config, Model, fresh, file, place, with_file, extent_count, spare, free_runs, both_cuts, insert, collapse, punch, reserve, write, empty, file_count, most_places}
 use Rattle.model.specs.Rules.{reasons, granted, step}
 use Rattle.model.specs.Replay.{Request, run}
-use Rattle.model.specs.Limits.{TidyAs, Tidy, Within, LimitsKept}
+use Rattle.model.specs.Limits.{Tidy, Within, LimitsKept}
 use Rattle.model.proofs.Basics.{positive}
 use Rattle.model.proofs.Settled.{Clear, step_both}
 use Rattle.model.proofs.Choosing.{some_run, fit_count, split_total}
@@ -26,13 +25,10 @@ hole_tidy : Tidy hole
 hole_tidy = (refl, refl)
 
 -- blocks laid on holes
-laid_one : (p : Place) (b : ℕ) (k : Kind) → p.kind ≡ k → is_hole k ≡ true → TidyAs k p → p.bytes ≡ zeros
-laid_one p b k e h t = grind arith
-
 laid_tidy : (bs : List ℕ) (ps : List Place) → all_holes (take (length bs) ps) ≡ true → ((k : ℕ) → Tidy (get_or ps k hole)) → (k : ℕ) → Tidy (get_or (laid bs ps) k hole)
 laid_tidy [] ps holes all k = all k
 laid_tidy (b ∷ bs) [] holes all k = all k
-laid_tidy (b ∷ bs) (p ∷ ps) holes all zero = laid_one p b p.kind refl (and_parts (is_hole p.kind) (all_holes (take (length bs) ps)) holes).0 (all 0)
+laid_tidy (b ∷ bs) (p ∷ ps) holes all zero = grind (arith, all 0)
 laid_tidy (b ∷ bs) (p ∷ ps) holes all (suc k) = laid_tidy bs ps (and_parts (is_hole p.kind) (all_holes (take (length bs) ps)) holes).1 (λ j. all (suc j)) k
 
 module _ {c : Config} {m : Model} (w : Within c m) (f : ℕ) (lt : f < file_count) where
@@ -90,17 +86,12 @@ module _ {c : Config} {m : Model} (w : Within c m) (f : ℕ) (lt : f < file_coun
   write_within : (at : ℕ) (bytes : List ℕ) → at < length (file m f) → length bytes ≡ block_size → is_hole (place m f at).kind ≡ false → ltb (spare c m) (cond (is_reserved (place m f at).kind) (both_cuts m f at 1) 0) ≡ false → Within c (write m f at bytes)
   write_within at bytes under full solid e =
       let ps = file m f in
-      changed (set ps at p) m.free (omega (arith, length-set ps at p, w.places f)) (few (place m f at).kind refl solid e)
+      let p : Place = record { kind = Written; block = (place m f at).block; bytes = bytes } in
+      changed (set ps at p) m.free (omega (arith, length-set ps at p, w.places f)) (grind (arith, set_ext (file m f) at p under, room (both_cuts m f at 1), set_same (file m f) at p under, w.entries))
       (λ k. ⊎_elim
       (λ (same : k ≡ at). rw (same, get_or-set_same ps at p hole under) full)
       (λ other. rw (get_or-set_other ps at k p hole other) (w.tidy f k))
       (cases_eq k at))
-    where
-      p : Place
-      p = record { kind = Written; block = (place m f at).block; bytes = bytes }
-
-      few : (k : Kind) → (place m f at).kind ≡ k → is_hole k ≡ false → ltb (spare c m) (cond (is_reserved k) (both_cuts m f at 1) 0) ≡ false → ext (set (file m f) at p) + extent_count m ≤ ext (file m f) + c.entries
-      few k is h s = grind (arith, set_ext (file m f) at p under, room (both_cuts m f at 1), set_same (file m f) at p under, w.entries)
 
   drop_within : Within c (empty m f)
   drop_within = changed [] (empty m f).free (omega arith) (omega (arith, w.entries)) (λ k. hole_tidy)
@@ -135,16 +126,17 @@ run_within c m w [] = w
 run_within c m w (q ∷ qs) = run_within c (step c m q.call q.buffer).next (step_both c m q.call q.buffer (λ o. Within c o.next) (λ why. w) (granted_within c m w q.call q.buffer)) qs
 
 -- every file of a new volume is empty
-pub fresh_files : (P : List Place → Type 0) → P [] → (n f : ℕ) → P (get_or (replicate n []) f [])
-fresh_files P e zero f = e
-fresh_files P e (suc n) zero = e
-fresh_files P e (suc n) (suc f) = fresh_files P e n f
+no_places : (n f : ℕ) → get_or {A = List Place} (replicate n []) f [] ≡ []
+no_places n f = grind (arith, places)
+
+pub fresh_file : (v f : ℕ) → file (fresh v) f ≡ []
+fresh_file v f = no_places file_count f
 
 fresh_within : (c : Config) → Within c (fresh c.volume)
 fresh_within c = record {
   files = refl;
-  places = λ f. fresh_files (λ ps. length ps ≤ most_places) (omega arith) file_count f;
-  tidy = λ f k. fresh_files (λ ps. Tidy (get_or ps k hole)) hole_tidy file_count f;
+  places = λ f. rw (fresh_file c.volume f) (omega arith);
+  tidy = λ f k. rw (fresh_file c.volume f) hole_tidy;
   entries = omega arith;
 }
 

@@ -1,8 +1,8 @@
 -- One owner: each block is free, or in one place of one file.
-use Rattle.std.proofs.Common.{◌≡◌, ℕ, zero, suc, ◌+◌, ◌<◌, ◌≤◌, Bool, true, false, cond, ◌||◌, ltb, List, [], ◌∷◌, ◌++◌, length, take, drop, set, replicate, refl, ap, ◌∙◌, arith, length-drop, length-set}
+use Rattle.std.proofs.Common.{◌≡◌, ℕ, zero, suc, ◌+◌, ◌<◌, ◌≤◌, Bool, true, false, cond, ◌||◌, ltb, List, [], ◌∷◌, ◌++◌, length, take, drop, set, replicate, refl, ◌∙◌, arith, length-drop, length-set}
 use Rattle.std.proofs.lemmas.List.Folds.{sum_by-replicate}
 use Rattle.std.proofs.lemmas.List.Sums.{sum_by-cons, sum_by-append, sum_by-set, sum_by-take-drop, get_or-le-sum_by}
-use Rattle.std.proofs.lemmas.Bool.{le-ltb, ltb-false, leb-false, not-false}
+use Rattle.std.proofs.lemmas.Bool.{ltb-false, leb-false, not-false}
 use Rattle.std.proofs.lemmas.Bool.Decides.{nat_tests}
 use Rattle.calls.specs.declared.kind.Kind.TheVariants.{Reserved, Written}
 use Rattle.calls.specs.declared.call.Call.{Call}
@@ -13,7 +13,7 @@ use Rattle.model.specs.Store.{Config, Model, fresh, file, place, with_file, free
 use Rattle.model.specs.Rules.{reasons, granted, step}
 use Rattle.model.specs.Replay.{Request, run, reached}
 use Rattle.model.specs.Ownership.{one_if, owners, OneOwner}
-use Rattle.model.proofs.Basics.{one_if_le, is_false, without_one}
+use Rattle.model.proofs.Basics.{one_if_le, without_one}
 use Rattle.model.proofs.Settled.{Clear, step_both}
 use Rattle.model.proofs.Choosing.{times_cons, times_append, length_blocks, fit_count, fit_blocks, split_total, split_blocks, runs_once}
 
@@ -26,7 +26,7 @@ held_append xs ys b = sum_by-append (λ q. cond (on b q) 1 0) xs ys
 
 pub held_holes : (n b : ℕ) → held (replicate n hole) b ≡ 0
 held_holes zero b = refl
-held_holes (suc n) b = held_cons hole (replicate n hole) b ∙ omega (arith, held_holes n b)
+held_holes (suc n) b = omega (arith, held_cons hole (replicate n hole) b, held_holes n b)
 
 pub held_cut : (at : ℕ) (ps : List Place) (b : ℕ) → held (take at ps) b + held (drop at ps) b ≡ held ps b
 held_cut at ps b = sum_by-take-drop (λ q. cond (on b q) 1 0) ps at
@@ -79,9 +79,9 @@ module _ {v : ℕ} {m : Model} (s : Sound v m) (f : ℕ) (lt : f < file_count) w
   pub empty_sound : Sound v (empty m f)
   empty_sound = kept [] (freed m.free (file m f)) (λ b. omega (arith, freed_one (m.free b) (held (file m f) b) (held_le b)))
 
-  pub reserve_sound : (at : ℕ) (bs : List ℕ) → at + length bs ≤ length (file m f) → all_holes (range (file m f) at (length bs)) ≡ true → ((b : ℕ) → times bs b ≤ one_if (m.free b)) → Sound v (reserve m f at bs)
-  reserve_sound at bs fits holes free = kept (reserved (file m f) at bs) (without m.free bs) (λ b.
-      omega (arith, held_append, held_cut at (file m f) b, without_one (m.free b) (times bs b) (free b), held_laid bs (drop at (file m f)) b (omega (arith, length-drop at (file m f))) holes))
+  pub reserve_sound : (at n : ℕ) (bs : List ℕ) → length bs ≡ n → at + n ≤ length (file m f) → all_holes (range (file m f) at n) ≡ true → ((b : ℕ) → times bs b ≤ one_if (m.free b)) → Sound v (reserve m f at bs)
+  reserve_sound at n bs long fits holes free = kept (reserved (file m f) at bs) (without m.free bs) (λ b.
+      omega (arith, held_append, held_cut at (file m f) b, without_one (m.free b) (times bs b) (free b), held_laid bs (drop at (file m f)) b (omega (arith, length-drop at (file m f))) (rw long holes)))
 
   pub write_sound : (at : ℕ) (bytes : List ℕ) → at < length (file m f) → is_hole (place m f at).kind ≡ false → Sound v (write m f at bytes)
   write_sound at bytes lt' solid =
@@ -114,17 +114,11 @@ granted_sound c m s (Insert f at n) bytes ok = insert_sound s f (leb-false _ _ o
 granted_sound c m s (Collapse f at n) bytes ok = collapse_sound s f (leb-false _ _ ok.0) at n
 granted_sound c m s (Punch f at n) bytes ok = punch_sound s f (leb-false _ _ ok.0) at n
 granted_sound c m s (ReserveWhole f at n) bytes ok =
-    let inside : at + n ≤ length (file m f) = ltb-false _ _ ok.1.1.0 in
     let fits : n ≤ most (free_runs c m) = ltb-false _ _ ok.1.1.1.1.0 in
-    let long = whole_long (free_runs c m) n fits in
-    reserve_sound s f (leb-false _ _ ok.0) at (blocks_of (whole n (free_runs c m)))
-    (omega (arith, inside, long)) (rw long (not-false _ ok.1.1.1.0)) (λ b. whole_free m.free c.volume n b fits)
+    reserve_sound s f (leb-false _ _ ok.0) at n _ (whole_long (free_runs c m) n fits) (ltb-false _ _ ok.1.1.0) (not-false _ ok.1.1.1.0) (λ b. whole_free m.free c.volume n b fits)
 granted_sound c m s (ReserveSplit f at n) bytes ok =
-    let inside : at + n ≤ length (file m f) = ltb-false _ _ ok.1.1.0 in
     let fits : n ≤ total (free_runs c m) = ltb-false _ _ ok.1.1.1.1.0 in
-    let long = split_long (free_runs c m) n fits in
-    reserve_sound s f (leb-false _ _ ok.0) at (blocks_of (split n (free_runs c m)))
-    (omega (arith, inside, long)) (rw long (not-false _ ok.1.1.1.0)) (λ b. split_free m.free c.volume n b)
+    reserve_sound s f (leb-false _ _ ok.0) at n _ (split_long (free_runs c m) n fits) (ltb-false _ _ ok.1.1.0) (not-false _ ok.1.1.1.0) (λ b. split_free m.free c.volume n b)
 granted_sound c m s (Write f at) bytes ok = write_sound s f (leb-false _ _ ok.0) at bytes (leb-false _ _ ok.1.0) ok.1.1.1.0
 granted_sound c m s (Read f at) bytes ok = s
 granted_sound c m s (Find f at) bytes ok = s
@@ -133,12 +127,9 @@ granted_sound c m s Tally bytes ok = s
 granted_sound c m s (Map f) bytes ok = s
 granted_sound c m s (Drop f) bytes ok = empty_sound s f (leb-false _ _ ok.0)
 
-pub step_sound : (c : Config) (m : Model) → Sound c.volume m → (call : Call) (bytes : List ℕ) → Sound c.volume (step c m call bytes).next
-step_sound c m s call bytes = step_both c m call bytes (λ o. Sound c.volume o.next) (λ why. s) (granted_sound c m s call bytes)
-
 pub run_sound : (c : Config) (m : Model) → Sound c.volume m → (qs : List Request) → Sound c.volume (run c m qs).after
 run_sound c m s [] = s
-run_sound c m s (q ∷ qs) = run_sound c (step c m q.call q.buffer).next (step_sound c m s q.call q.buffer) qs
+run_sound c m s (q ∷ qs) = run_sound c (step c m q.call q.buffer).next (step_both c m q.call q.buffer (λ o. Sound c.volume o.next) (λ why. s) (granted_sound c m s q.call q.buffer)) qs
 
 pub fresh_sound : (v : ℕ) → Sound v (fresh v)
 fresh_sound v = record { sized = refl; owned = λ b. omega (arith, sum_by-replicate (λ ps. held ps b) file_count []) }
@@ -151,4 +142,4 @@ one_owner c qs b = (reached_sound c qs).owned b
 
 -- no block past the volume is free
 pub free_below : (c : Config) (m : Model) → Sound c.volume m → (b : ℕ) → c.volume ≤ b → m.free b ≡ false
-free_below c m s b ge = is_false (m.free b) (omega (arith, s.owned b, ap one_if (le-ltb b c.volume ge)))
+free_below c m s b ge = grind (arith, nat_tests, s.owned b)

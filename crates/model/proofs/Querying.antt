@@ -1,12 +1,12 @@
 -- What find, length, tally and map answer.
-use Rattle.std.proofs.Common.{◌≡◌, ℕ, zero, suc, ◌+◌, ◌<◌, ◌≤◌, Bool, true, cond, List, [], ◌∷◌, length, drop, count_by, sym, refl, ap, ◌∙◌, subst, ap₂, arith, length-drop}
+use Rattle.std.proofs.Common.{◌≡◌, ℕ, zero, suc, ◌+◌, ◌<◌, ◌≤◌, Bool, true, cond, List, [], ◌∷◌, length, drop, count_by, sym, refl, ◌∙◌, subst, ap₂, arith, length-drop}
 use Rattle.std.proofs.lemmas.List.Sums.{sum_by-cons}
 use Rattle.std.proofs.lemmas.Bool.Decides.{nat_tests}
-use Rattle.std.proofs.lemmas.Bool.{le-leb, lt-leb, le-ltb, cond_both}
+use Rattle.std.proofs.lemmas.Bool.{lt-leb, cond_both}
 use Rattle.calls.specs.declared.call.Call.TheVariants.{Find, Tally}
 use Rattle.calls.specs.declared.answer.Answer.TheVariants.{Tallied}
 use Rattle.model.specs.Places.{Place}
-use Rattle.model.specs.Extents.{Extent, goes_on, before, extents, cut, leading_count, map_text}
+use Rattle.model.specs.Extents.{Extent, goes_on, before, extents, cut, leading_count}
 use Rattle.model.specs.Space.{Blocks, Run, run_before, runs_from, total, longest, row}
 use Rattle.model.specs.Store.{Config, Model, file_count, file, place, free_runs, spare}
 use Rattle.model.specs.Rules.{leaves, step}
@@ -27,23 +27,21 @@ use Rattle.model.proofs.Telling.{lengths}
 record Leads (ps : List Place) (l : ℕ) : Type 0 where
   some : 0 < l
   inside : l ≤ length ps
-  together : (i : ℕ) → suc i < l → cut ps (suc i) ≡ 1
+  together : (i : ℕ) → 0 < i → i < l → cut ps i ≡ 1
   ends : cut ps l ≡ 0
-
-cut_one : (p q : Place) (qs : List Place) → cut (p ∷ q ∷ qs) 1 ≡ one_if (goes_on p.kind p.block q.kind q.block)
-cut_one p q qs = grind (arith, nat_tests)
 
 -- one place more in front, in the same extent
 leads_more : (p q : Place) (qs : List Place) (l : ℕ) → goes_on p.kind p.block q.kind q.block ≡ true → Leads (q ∷ qs) l → Leads (p ∷ q ∷ qs) (suc l)
 leads_more p q qs zero on ih = absurd (omega (arith, ih.some))
 leads_more p q qs (suc l) on ih = record { some = omega arith; inside = omega (arith, ih.inside); together = joined; ends = cut_cons p (q ∷ qs) l ∙ ih.ends }
   where
-    joined : (i : ℕ) → suc i < suc (suc l) → cut (p ∷ q ∷ qs) (suc i) ≡ 1
-    joined zero lt = cut_one p q qs ∙ ap one_if on
-    joined (suc i) lt = cut_cons p (q ∷ qs) i ∙ ih.together i (omega arith)
+    joined : (i : ℕ) → 0 < i → i < suc (suc l) → cut (p ∷ q ∷ qs) i ≡ 1
+    joined zero pos lt = absurd (omega arith)
+    joined (suc zero) pos lt = grind (arith, nat_tests)
+    joined (suc (suc i)) pos lt = cut_cons p (q ∷ qs) i ∙ ih.together (suc i) (omega arith) (omega arith)
 
 leads : (p : Place) (ps : List Place) → Leads (p ∷ ps) (leading_count (extents (p ∷ ps)))
-leads p [] = record { some = omega arith; inside = omega arith; together = λ i lt. absurd (omega arith); ends = cut_past (p ∷ []) 0 (omega arith) }
+leads p [] = record { some = omega arith; inside = omega arith; together = λ i pos lt. absurd (omega arith); ends = cut_past (p ∷ []) 0 (omega arith) }
 leads p (q ∷ qs) =
     let h = before_head q.kind q.block (extents qs) in
     subst (λ es. Leads (p ∷ q ∷ qs) (leading_count (before p.kind p.block es))) (sym h.is)
@@ -53,7 +51,7 @@ leads p (q ∷ qs) =
     go e es same ih =
         cond_both (goes_on p.kind p.block e.kind e.block) _ _ (λ x. Leads (p ∷ q ∷ qs) (leading_count x))
         (λ on. leads_more p q qs e.count (sym same ∙ on) ih)
-        (λ apart. record { some = omega arith; inside = omega arith; together = λ i lt. absurd (omega arith); ends = cut_one p q qs ∙ ap one_if (sym same ∙ apart) })
+        (λ apart. record { some = omega arith; inside = omega arith; together = λ i pos lt. absurd (omega arith); ends = grind (arith, nat_tests) })
 
 leads_some : (ps : List Place) → 0 < length ps → Leads ps (leading_count (extents ps))
 leads_some [] lt = absurd (omega arith)
@@ -61,28 +59,18 @@ leads_some (p ∷ ps) lt = leads p ps
 
 -- the same, from place at on
 finds : (c : Config) (m : Model) (f at : ℕ) (buffer : List ℕ) → f < file_count → at < length (file m f) → Finds m f at buffer (step c m (Find f at) buffer)
-finds c m f at buffer lt under = go (leading_count (extents (drop at ps))) refl (leads_some (drop at ps) (omega (arith, length-drop at ps)))
-  where
-    ps : List Place
-    ps = file m f
-
-    shifted : (i : ℕ) → cut ps (at + suc i) ≡ cut (drop at ps) (suc i)
-    shifted i = ap (cut ps) (let j : at + suc i ≡ suc (at + i) = omega arith in j) ∙ sym (cut_drop ps at i)
-
-    go : (l : ℕ) → leading_count (extents (drop at ps)) ≡ l → Leads (drop at ps) l → Finds m f at buffer (step c m (Find f at) buffer)
-    go zero e h = absurd (omega (arith, h.some))
-    go (suc l) e h = record {
-      rest = suc l;
-      says = let x = lt-leb file_count f lt in let y = lt-leb (length (file m f)) at under in rw (x, y, e);
+finds c m f at buffer lt under =
+    let ps = file m f in
+    let l = leading_count (extents (drop at ps)) in
+    let h = leads_some (drop at ps) (omega (arith, length-drop at ps)) in
+    record {
+      rest = l;
+      says = rw (lt-leb file_count f lt, lt-leb (length ps) at under);
       some = h.some;
       inside = omega (arith, h.inside, length-drop at ps);
-      together = between;
-      ends = shifted l ∙ h.ends;
+      together = λ i pos lt'. sym (cut_drop ps at i pos) ∙ h.together i pos lt';
+      ends = sym (cut_drop ps at l h.some) ∙ h.ends;
     }
-      where
-        between : (i : ℕ) → 0 < i → i < suc l → cut ps (at + i) ≡ 1
-        between zero pos lt = absurd (omega arith)
-        between (suc i) pos lt = shifted i ∙ h.together i lt
 
 -- the free blocks, counted
 total_before : (x : Bool) (s : ℕ) (rs : List Run) → total (run_before x s rs) ≡ one_if x + total rs
@@ -103,14 +91,14 @@ tallies c m s buffer = record {
 maps : (c : Config) (m : Model) (f : ℕ) (buffer : List ℕ) → f < file_count → ((k : ℕ) → Tidy (place m f k)) → (es : List Extent) → spread es ≡ mappings (file m f) → Longest es → Maps c m f buffer es
 maps c m f buffer lt tidy es stand long =
     subst (Maps c m f buffer) (extents_exact.only (file m f) es tidy stand long)
-    (λ fits. let x = lt-leb file_count f lt in let y = le-ltb (length buffer) (length (map_text (file m f))) fits in rw (x, y))
+    (λ fits. grind (arith, nat_tests))
 
 pub queries_right : QueriesRight
 queries_right c qs f buffer lt =
     let m = reached c qs in
     record {
       find = λ at under. finds c m f at buffer lt under;
-      nothing_else = λ at over. let x = lt-leb file_count f lt in let y = le-leb (length (file m f)) at over in rw (x, y);
+      nothing_else = λ at over. grind (arith, nat_tests);
       long = lengths c m f buffer lt;
       tally = tallies c m (reached_sound c qs) buffer;
       map = maps c m f buffer lt ((limits_kept c qs).tidy f);

@@ -1,5 +1,5 @@
 -- What the answers to a reserve mean.
-use Rattle.std.proofs.Common.{◌≡◌, ℕ, ◌+◌, ◌<◌, ◌≤◌, List, [], ◌∷◌, map, length, take, drop, Ok, sym, refl, ap, ◌∙◌, subst, arith, length-drop}
+use Rattle.std.proofs.Common.{◌≡◌, ℕ, ◌+◌, ◌<◌, ◌≤◌, List, [], ◌∷◌, map, length, take, drop, Ok, sym, refl, ap, arith, length-drop}
 use Rattle.std.proofs.lemmas.List.{drop_at, length-take-le, get_or-set_same}
 use Rattle.std.proofs.lemmas.Bool.{ltb-false, leb-false}
 use Rattle.calls.specs.declared.call.Call.TheVariants.{ReserveWhole, ReserveSplit}
@@ -30,10 +30,7 @@ on_places m f at n bs lt long fits =
     let ps = file m f in
     let same : file (reserve m f at bs) f ≡ reserved ps at bs = get_or-set_same m.files f (reserved ps at bs) [] lt in
     let behind : drop at (reserved ps at bs) ≡ laid bs (drop at ps) = drop_at (take at ps) (laid bs (drop at ps)) at (length-take-le at ps (omega arith)) in
-    ap (λ l. map (λ (p : Place). p.block) (take n (drop at l))) same
-    ∙ ap (λ l. map (λ (p : Place). p.block) (take n l)) behind
-    ∙ ap (λ k. map (λ (p : Place). p.block) (take k (laid bs (drop at ps)))) (sym long)
-    ∙ laid_blocks bs (drop at ps) (omega (arith, length-drop at ps))
+    rw (same, behind, ← long) (laid_blocks bs (drop at ps) (omega (arith, length-drop at ps)))
 
 module _ (c : Config) (m : Model) (s : Sound c.volume m) (f at n : ℕ) (buffer : List ℕ) where
   split_granted : (k : ℕ) → (step c m (ReserveSplit f at n) buffer).answer ≡ Ok (Pieces k) → Fewest m.free n k (laid_on (step c m (ReserveSplit f at n) buffer).next f at n)
@@ -48,7 +45,7 @@ module _ (c : Config) (m : Model) (s : Sound c.volume m) (f at n : ℕ) (buffer 
       let bs = blocks_of (split n (free_runs c m)) in
       let kk : length (split n (free_runs c m)) ≡ k = cc in
       let places : laid_on (reserve m f at bs) f at n ≡ bs = on_places m f at n bs (omega (arith, real, s.sized)) (split_long (free_runs c m) n fits) inside in
-      subst (λ l. Fewest m.free n k l) (sym places) (subst (λ j. Fewest m.free n j bs) kk (split_good m.free c.volume (free_below c m s) n pos fits)))
+      rw (places, ← kk) (split_good m.free c.volume (free_below c m s) n pos fits))
 
   whole_granted : (k : ℕ) → (step c m (ReserveWhole f at n) buffer).answer ≡ Ok (Pieces k) → (k ≡ 1) × Fewest m.free n k (laid_on (step c m (ReserveWhole f at n) buffer).next f at n)
   whole_granted k =
@@ -62,7 +59,7 @@ module _ (c : Config) (m : Model) (s : Sound c.volume m) (f at n : ℕ) (buffer 
       let bs = blocks_of (whole n (free_runs c m)) in
       let kk : 1 ≡ k = cc in
       let places : laid_on (reserve m f at bs) f at n ≡ bs = on_places m f at n bs (omega (arith, real, s.sized)) (whole_long (free_runs c m) n fits) inside in
-      (sym kk, subst (λ l. Fewest m.free n k l) (sym places) (subst (λ j. Fewest m.free n j bs) kk (whole_good m.free c.volume (free_below c m s) n pos fits))))
+      (sym kk, rw (places, ← kk) (whole_good m.free c.volume (free_below c m s) n pos fits)))
 
   no_space_says : Ground c m (ReserveSplit f at n) buffer NoSpace → (bs : List ℕ) → Choice m.free n bs → ⊥
   no_space_says (no_space none) = none
