@@ -1,7 +1,7 @@
 -- Build is granted just where it is allowed.
-use Rattle.std.proofs.Common.{◌≡◌, ℕ, suc, Bool, true, false, ◌||◌, ⊎_elim, arith}
+use Rattle.std.proofs.Common.{◌≡◌, ℕ, suc, Bool, false, ◌||◌, arith}
 use Rattle.std.proofs.lemmas.Bool.Decides.{nat_tests}
-use Rattle.std.proofs.lemmas.Bool.{lt-ltb, le-ltb, cases_Bool}
+use Rattle.std.proofs.lemmas.Bool.{true_from_ne_false, lt-ltb, le-ltb}
 use Rattle.card.specs.Sizes.{most_blocks}
 use Rattle.model.specs.Rules.{outside, most_extent_entries, most_run_entries}
 use Rattle.model.specs.Limits.{Allowed, Builds}
@@ -22,7 +22,7 @@ pub builds : Builds
 builds = record {
   files = fresh_file;
   one_run = fresh_runs;
-  granted = λ v e r n ok le. let a = allowed_passes v e r ok in let b = le-ltb n v le in rw (a, b);
-  small = λ v e r n ok lt. let a = allowed_passes v e r ok in let b = lt-ltb n v lt in rw (a, b);
-  outside = λ v e r n bad. ⊎_elim (λ (yes_so : refused v e r ≡ true). rw yes_so) (λ passed. absurd (bad (passes_allowed v e r passed))) (cases_Bool (refused v e r));
+  granted = λ v e r n ok le. rw (allowed_passes v e r ok, le-ltb n v le);
+  small = λ v e r n ok lt. rw (allowed_passes v e r ok, lt-ltb n v lt);
+  outside = λ v e r n bad. rw (true_from_ne_false (refused v e r) (λ passed. bad (passes_allowed v e r passed)));
 }

@@ -92,9 +92,13 @@ split_blocks (suc k) n (r ∷ rs) b =
     (λ _. omega (arith, times_append (row l.start l.count) (blocks_of rest) b, (parted r rs).blocks b, split_blocks k (n - most (r ∷ rs)) (others (r ∷ rs)) b))
 
 -- the blocks of the runs are the free blocks, each once
-pub blocks_before : (s : ℕ) (rs : List Run) → blocks_of (run_before true s rs) ≡ s ∷ blocks_of rs
+blocks_before : (s : ℕ) (rs : List Run) → blocks_of (run_before true s rs) ≡ s ∷ blocks_of rs
 blocks_before s [] = refl
 blocks_before s (r ∷ rs) = grind (arith, nat_tests)
+
+pub times_before : (x : Bool) (s : ℕ) (rs : List Run) (b : ℕ) → times (blocks_of (run_before x s rs)) b ≡ cond x (one_if (eqb s b)) 0 + times (blocks_of rs) b
+times_before false s rs b = omega arith
+times_before true s rs b = rw (blocks_before s rs) (times_cons s (blocks_of rs) b)
 
 pub record Once (free : Blocks) (s : ℕ) (bs : List ℕ) (b : ℕ) : Type 0 where
   pub below : b < s → times bs b ≡ 0
@@ -102,8 +106,4 @@ pub record Once (free : Blocks) (s : ℕ) (bs : List ℕ) (b : ℕ) : Type 0 whe
 
 pub runs_once : (free : Blocks) (s n b : ℕ) → Once free s (blocks_of (runs_from free s n)) b
 runs_once free s zero b = record { below = λ _. refl; free_only = omega arith }
-runs_once free s (suc n) b = go (free s) refl (runs_once free (suc s) n b)
-  where
-    go : (x : Bool) → free s ≡ x → Once free (suc s) (blocks_of (runs_from free (suc s) n)) b → Once free s (blocks_of (run_before x s (runs_from free (suc s) n))) b
-    go false e ih = grind arith
-    go true e ih = rw (blocks_before s (runs_from free (suc s) n)) (grind (arith, nat_tests, times_cons s (blocks_of (runs_from free (suc s) n)) b))
+runs_once free s (suc n) b = grind (arith, nat_tests, times_before (free s) s (runs_from free (suc s) n) b, runs_once free (suc s) n b)

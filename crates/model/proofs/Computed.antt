@@ -13,8 +13,4 @@ listing_answered = refl
 
 -- an insert of any number of places up to the most, into an empty file
 pub inserts : (v e n : ℕ) → 0 < n → n ≤ 16777216 → answers v (suc e) (Insert 0 0 n ∷ []) ≡ Ok Done ∷ []
-inserts v e n some fits =
-    let a = ne_eqb n 0 (λ z. omega arith) in
-    let b = le-ltb 16777216 (0 + n) (omega arith) in
-    let d = le-ltb (suc e - 0) 1 (omega arith) in
-    rw (a, b, d)
+inserts v e n some fits = rw (ne_eqb n 0 (λ z. omega arith), le-ltb 16777216 (0 + n) (omega arith), le-ltb (suc e - 0) 1 (omega arith))

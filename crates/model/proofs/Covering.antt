@@ -151,14 +151,8 @@ begins bs x = cond (not (preceded bs x)) (times bs x) 0
 abbrev pub continues : List ℕ → ℕ → ℕ
 continues bs x = cond (preceded bs x) (times bs x) 0
 
-begins_or_continues : (p : Bool) (t : ℕ) → cond (not p) t 0 + cond p t 0 ≡ t
-begins_or_continues p t = grind arith
-
-continues_none : (bs : List ℕ) (x : ℕ) → times bs x ≡ 0 → continues bs (suc x) ≡ 0
-continues_none bs x e = rw e
-
 continues_le : (bs : List ℕ) (x : ℕ) → continues bs x ≤ times bs x
-continues_le bs x = omega (arith, begins_or_continues (preceded bs x) (times bs x))
+continues_le bs x = grind arith
 
 -- runs that have room for the blocks of a choice from s on, and are no more than its pieces
 pub record Cover (free : Blocks) (bs : List ℕ) (s n : ℕ) (rs : List Run) : Type 0 where
@@ -175,7 +169,7 @@ module _ (free : Blocks) (bs : List ℕ) (apart : (b : ℕ) → times bs b ≤ o
     picked = old.picked;
     sub = old.sub;
     wide = omega (arith, old.wide);
-    short = omega (arith, old.short, continues_none bs s te);
+    short = grind (arith, nat_tests, old.short);
     head = λ _ some. absurd (omega arith);
   }
   cover_more s n false fe (suc t) te le rs last old = absurd (omega arith)
@@ -185,13 +179,13 @@ module _ (free : Blocks) (bs : List ℕ) (apart : (b : ℕ) → times bs b ≤ o
         picked = p.picked;
         sub = p.sub;
         wide = omega (arith, old.wide, p.wide);
-        short = omega (arith, old.short, p.short, continues_none bs s te);
+        short = grind (arith, nat_tests, old.short, p.short);
         head = λ _ some. absurd (omega arith);
       }
   cover_more s n true fe (suc t) te le rs last old = go n rs last old (times bs (suc s)) refl
     where
       both : begins bs s + continues bs s ≡ times bs s
-      both = begins_or_continues (preceded bs s) (times bs s)
+      both = grind arith
 
       grown : (n : ℕ) (rs : List Run) (room few : ℕ) → Grown s (run_before true s rs) room few → suc (tally (λ x. times bs x) (suc s) n) ≤ room → few ≤ suc (tally (begins bs) (suc s) n) → Cover free bs s (suc n) (run_before true s rs)
       grown n rs room few g a b = record {
@@ -214,7 +208,7 @@ module _ (free : Blocks) (bs : List ℕ) (apart : (b : ℕ) → times bs b ≤ o
   -- over the whole volume
   module _ (v : ℕ) (below : (b : ℕ) → v ≤ b → free b ≡ false) where
     unheld : (b : ℕ) → v ≤ b → times bs b ≡ 0
-    unheld b ge = let none_here : one_if (free b) ≡ 0 = ap one_if (below b ge) in omega (arith, apart b)
+    unheld b ge = grind (arith, below b, apart b)
 
     pub covered : (xs : List Run) × Sub xs (runs free v) × (length bs ≤ total xs) × (length xs ≤ pieces bs)
     covered =

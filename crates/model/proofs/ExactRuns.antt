@@ -1,12 +1,12 @@
 -- The free runs are the only rising rows that have just the free blocks.
-use Rattle.std.proofs.Common.{◌≡◌, ℕ, zero, suc, ◌+◌, ◌<◌, ◌≤◌, Bool, true, false, cond, eqb, ltb, List, [], ◌∷◌, sym, refl, ap, ◌∙◌, ⊎_elim, arith}
+use Rattle.std.proofs.Common.{◌≡◌, ℕ, zero, suc, ◌+◌, ◌<◌, ◌≤◌, Bool, true, false, ltb, List, [], ◌∷◌, sym, refl, ap, ◌∙◌, ⊎_elim, arith}
 use Rattle.std.proofs.lemmas.Bool.Decides.{nat_tests}
 use Rattle.std.proofs.lemmas.Bool.{lt-ltb, cases_lt}
 use Rattle.model.specs.Space.{Blocks, times, Run, run_before, runs_from, runs, row, blocks_of}
 use Rattle.model.specs.Ownership.{one_if}
 use Rattle.model.specs.Exact.{Rising, RunsExact}
 use Rattle.model.proofs.Basics.{is_false}
-use Rattle.model.proofs.Choosing.{times_cons, times_append, row_below, blocks_before}
+use Rattle.model.proofs.Choosing.{times_cons, times_append, row_below, times_before, runs_once}
 
 pub rising_weaker : (v s t : ℕ) (rs : List Run) → t ≤ s → Rising v s rs → Rising v t rs
 rising_weaker v s t [] le r = tt
@@ -26,15 +26,11 @@ runs_rise : (free : Blocks) (v s n : ℕ) → s + n ≡ v → Rising v s (runs_f
 runs_rise free v s zero e = tt
 runs_rise free v s (suc n) e = rising_before v s (free s) (runs_from free (suc s) n) (omega arith) (runs_rise free v (suc s) n (omega arith))
 
-times_before : (x : Bool) (s : ℕ) (rs : List Run) (b : ℕ) → times (blocks_of (run_before x s rs)) b ≡ cond x (one_if (eqb s b)) 0 + times (blocks_of rs) b
-times_before false s rs b = omega arith
-times_before true s rs b = ap (λ l. times l b) (blocks_before s rs) ∙ times_cons s (blocks_of rs) b
-
 runs_stand : (free : Blocks) (s n b : ℕ) → s ≤ b → b < s + n → times (blocks_of (runs_from free s n)) b ≡ one_if (free b)
 runs_stand free s zero b le lt = absurd (omega arith)
 runs_stand free s (suc n) b le lt =
     let later = runs_from free (suc s) n in
-    grind (arith, nat_tests, times_before (free s) s later b, rising_none (suc s + n) (suc s) b later (runs_rise free (suc s + n) (suc s) n refl), runs_stand free (suc s) n b)
+    grind (arith, nat_tests, times_before (free s) s later b, (runs_once free (suc s) n b).below, runs_stand free (suc s) n b)
 
 before_gap : (v s : ℕ) (rs : List Run) → Rising v (suc (s + 1)) rs → run_before true s rs ≡ record { start = s; count = 1 } ∷ rs
 before_gap v s [] r = refl

@@ -1,5 +1,5 @@
 -- A split has the fewest pieces.
-use Rattle.std.proofs.Common.{◌≡◌, ℕ, zero, suc, ◌-◌, ◌<◌, ◌≤◌, false, cond, not, List, [], ◌∷◌, length, count_by, sym, refl, subst, arith}
+use Rattle.std.proofs.Common.{◌≡◌, ℕ, zero, suc, ◌-◌, ◌<◌, ◌≤◌, false, cond, not, List, [], ◌∷◌, length, count_by, refl, arith}
 use Rattle.std.proofs.lemmas.List.Sums.{sum_by-cons, sum_by-append}
 use Rattle.std.proofs.lemmas.Bool.{le-leb}
 use Rattle.std.proofs.lemmas.Bool.Decides.{nat_tests}
@@ -7,7 +7,7 @@ use Rattle.model.specs.Space.{Blocks, times, Run, runs, total, most, others, spl
 use Rattle.model.specs.Pieces.{Choice, preceded, pieces, LowestRow, Fewest}
 use Rattle.model.proofs.Choosing.{some_run, times_cons, times_append, longest_count, split_total}
 use Rattle.model.proofs.Owners.{split_free, split_long}
-use Rattle.model.proofs.Covering.{Sub, sub_total, split_fewest, covered}
+use Rattle.model.proofs.Covering.{sub_total, split_fewest, covered}
 use Rattle.model.proofs.Rows.{whole_lowest}
 use Rattle.model.proofs.Taking.{split_taken}
 
@@ -50,16 +50,13 @@ most_total (r ∷ rs) = omega (arith, most_total rs)
 
 -- what is chosen, over a volume of v blocks
 module _ (free : Blocks) (v : ℕ) (below : (b : ℕ) → v ≤ b → free b ≡ false) where
-  pub any_choice : (n : ℕ) (bs : List ℕ) → Choice free n bs → (xs : List Run) × Sub xs (runs free v) × (n ≤ total xs) × (length xs ≤ pieces bs)
-  any_choice n bs ch = let c = covered free bs ch.apart v below in (c.0, c.1, omega (arith, c.2, ch.many), c.3)
-
   pub split_least : (n : ℕ) → 0 < n → (bs : List ℕ) → Choice free n bs → length (split n (runs free v)) ≤ pieces bs
   split_least n pos bs ch =
-      let c = any_choice n bs ch in
-      omega (arith, split_fewest (length (runs free v)) n (runs free v) c.0 (omega arith) c.1 pos c.2, c.3)
+      let c = covered free bs ch.apart v below in
+      omega (arith, split_fewest (length (runs free v)) n (runs free v) c.0 (omega arith) c.1 pos (omega (arith, c.2, ch.many)), c.3)
 
   pub has_room : (n : ℕ) (bs : List ℕ) → Choice free n bs → n ≤ total (runs free v)
-  has_room n bs ch = let c = any_choice n bs ch in omega (arith, sub_total c.1, c.2)
+  has_room n bs ch = let c = covered free bs ch.apart v below in omega (arith, sub_total c.1, c.2, ch.many)
 
   pub split_choice : (n : ℕ) → n ≤ total (runs free v) → Choice free n (blocks_of (split n (runs free v)))
   split_choice n fits = record { many = split_long (runs free v) n fits; apart = λ b. split_free free v n b }
@@ -68,7 +65,7 @@ module _ (free : Blocks) (v : ℕ) (below : (b : ℕ) → v ≤ b → free b ≡
     split_lowest : length (split n (runs free v)) ≡ 1 → LowestRow free n (blocks_of (split n (runs free v)))
     split_lowest one =
         let le = split_one n (runs free v) pos fits one in
-        subst (λ qs. LowestRow free n (blocks_of qs)) (sym (split_is_whole n (runs free v) pos le)) (whole_lowest free v below n pos le)
+        rw (split_is_whole n (runs free v) pos le) (whole_lowest free v below n pos le)
 
     pub split_good : Fewest free n (length (split n (runs free v))) (blocks_of (split n (runs free v)))
     split_good = record {
@@ -80,6 +77,4 @@ module _ (free : Blocks) (v : ℕ) (below : (b : ℕ) → v ≤ b → free b ≡
     }
 
   pub whole_good : (n : ℕ) → 0 < n → n ≤ most (runs free v) → Fewest free n 1 (blocks_of (whole n (runs free v)))
-  whole_good n pos le =
-      let same = split_is_whole n (runs free v) pos le in
-      subst (λ qs. Fewest free n (length qs) (blocks_of qs)) same (split_good n pos (omega (arith, most_total (runs free v))))
+  whole_good n pos le = rw (split_is_whole n (runs free v) pos le) at (split_good n pos (omega (arith, most_total (runs free v))))

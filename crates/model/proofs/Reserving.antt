@@ -1,5 +1,5 @@
 -- What the answers to a reserve mean.
-use Rattle.std.proofs.Common.{◌≡◌, ℕ, ◌+◌, ◌<◌, ◌≤◌, List, [], ◌∷◌, map, length, take, drop, Ok, sym, refl, ap, arith, length-drop}
+use Rattle.std.proofs.Common.{◌≡◌, ℕ, ◌+◌, ◌<◌, ◌≤◌, List, [], ◌∷◌, map, length, take, drop, Ok, refl, ap, arith, length-drop}
 use Rattle.std.proofs.lemmas.List.{drop_at, length-take-le, get_or-set_same}
 use Rattle.std.proofs.lemmas.Bool.{ltb-false, leb-false}
 use Rattle.calls.specs.declared.call.Call.TheVariants.{ReserveWhole, ReserveSplit}
@@ -7,7 +7,7 @@ use Rattle.calls.specs.declared.refusal.Refusal.TheVariants.{NoSpace, NoRun}
 use Rattle.calls.specs.declared.answer.Answer.TheVariants.{Pieces}
 use Rattle.calls.specs.Answers.{answer_number}
 use Rattle.model.specs.Places.{Place, laid, reserved}
-use Rattle.model.specs.Space.{total, most, split, whole, blocks_of}
+use Rattle.model.specs.Space.{total, most, split}
 use Rattle.model.specs.Store.{Config, Model, file_count, file, free_runs, reserve}
 use Rattle.model.specs.Rules.{step}
 use Rattle.model.specs.Replay.{reached}
@@ -33,33 +33,29 @@ on_places m f at n bs lt long fits =
     rw (same, behind, ← long) (laid_blocks bs (drop at ps) (omega (arith, length-drop at ps)))
 
 module _ (c : Config) (m : Model) (s : Sound c.volume m) (f at n : ℕ) (buffer : List ℕ) where
+  -- what is the fewest for n blocks is so on the places
+  on_file : (bs : List ℕ) (k : ℕ) → f < file_count → length bs ≡ n → at + n ≤ length (file m f) → Fewest m.free n k bs → Fewest m.free n k (laid_on (reserve m f at bs) f at n)
+  on_file bs k lt long inside best = rw (on_places m f at n bs (omega (arith, s.sized)) long inside) best
+
   split_granted : (k : ℕ) → (step c m (ReserveSplit f at n) buffer).answer ≡ Ok (Pieces k) → Fewest m.free n k (laid_on (step c m (ReserveSplit f at n) buffer).next f at n)
   split_granted k =
       step_both c m (ReserveSplit f at n) buffer (λ o. o.answer ≡ Ok (Pieces k) → Fewest m.free n k (laid_on o.next f at n))
       (λ w e. absurd (omega (arith, refused_some w, ap answer_number e)))
       (λ ok e.
-      let real : f < file_count = leb-false _ _ ok.0 in
-      let pos : 0 < n = positive n ok.1.0 in
-      let inside : at + n ≤ length (file m f) = ltb-false _ _ ok.1.1.0 in
       let fits : n ≤ total (free_runs c m) = ltb-false _ _ ok.1.1.1.1.0 in
-      let bs = blocks_of (split n (free_runs c m)) in
-      let kk : length (split n (free_runs c m)) ≡ k = cc in
-      let places : laid_on (reserve m f at bs) f at n ≡ bs = on_places m f at n bs (omega (arith, real, s.sized)) (split_long (free_runs c m) n fits) inside in
-      rw (places, ← kk) (split_good m.free c.volume (free_below c m s) n pos fits))
+      let good = split_good m.free c.volume (free_below c m s) n (positive n ok.1.0) fits in
+      let count : length (split n (free_runs c m)) ≡ k = cc in
+      rw (← count) (on_file _ _ (leb-false _ _ ok.0) (split_long (free_runs c m) n fits) (ltb-false _ _ ok.1.1.0) good))
 
   whole_granted : (k : ℕ) → (step c m (ReserveWhole f at n) buffer).answer ≡ Ok (Pieces k) → (k ≡ 1) × Fewest m.free n k (laid_on (step c m (ReserveWhole f at n) buffer).next f at n)
   whole_granted k =
       step_both c m (ReserveWhole f at n) buffer (λ o. o.answer ≡ Ok (Pieces k) → (k ≡ 1) × Fewest m.free n k (laid_on o.next f at n))
       (λ w e. absurd (omega (arith, refused_some w, ap answer_number e)))
       (λ ok e.
-      let real : f < file_count = leb-false _ _ ok.0 in
-      let pos : 0 < n = positive n ok.1.0 in
-      let inside : at + n ≤ length (file m f) = ltb-false _ _ ok.1.1.0 in
       let fits : n ≤ most (free_runs c m) = ltb-false _ _ ok.1.1.1.1.0 in
-      let bs = blocks_of (whole n (free_runs c m)) in
-      let kk : 1 ≡ k = cc in
-      let places : laid_on (reserve m f at bs) f at n ≡ bs = on_places m f at n bs (omega (arith, real, s.sized)) (whole_long (free_runs c m) n fits) inside in
-      (sym kk, rw (places, ← kk) (whole_good m.free c.volume (free_below c m s) n pos fits)))
+      let good = whole_good m.free c.volume (free_below c m s) n (positive n ok.1.0) fits in
+      let count : k ≡ 1 = cc in
+      (count, rw count (on_file _ _ (leb-false _ _ ok.0) (whole_long (free_runs c m) n fits) (ltb-false _ _ ok.1.1.0) good)))
 
   no_space_says : Ground c m (ReserveSplit f at n) buffer NoSpace → (bs : List ℕ) → Choice m.free n bs → ⊥
   no_space_says (no_space none) = none

@@ -1,5 +1,5 @@
 -- Rows of free blocks and the runs that they lie in.
-use Rattle.std.proofs.Common.{◌≡◌, ℕ, zero, suc, ◌+◌, ◌<◌, ◌≤◌, true, false, List, [], ◌∷◌, refl, ap, ◌∙◌, subst, arith}
+use Rattle.std.proofs.Common.{◌≡◌, ℕ, zero, suc, ◌+◌, ◌<◌, ◌≤◌, true, false, List, [], ◌∷◌, refl, ap, ◌∙◌, arith}
 use Rattle.std.proofs.lemmas.List.{append-nil}
 use Rattle.std.proofs.lemmas.Bool.Decides.{nat_tests}
 use Rattle.model.specs.Space.{Blocks, times, Run, runs, most, longest, lowest_fit, whole, row, blocks_of}
@@ -40,7 +40,7 @@ module _ (free : Blocks) (v : ℕ) (below : (b : ℕ) → v ≤ b → free b ≡
   fits_at (suc n) b pos all = fits_from free n b 0 v (omega arith) (omega (arith, under (b + n) (all n (omega arith)))) all
 
   pub no_row : (n : ℕ) → most (runs free v) < n → (b : ℕ) → AllFree free b n → ⊥
-  no_row n lt b all = let f = fits_at n b (omega arith) all in omega (arith, f.room)
+  no_row n lt b all = omega (arith, (fits_at n b (omega arith) all).room)
 
   pub whole_lowest : (n : ℕ) → 0 < n → n ≤ most (runs free v) → LowestRow free n (blocks_of (whole n (runs free v)))
   whole_lowest n pos le =
@@ -58,7 +58,7 @@ module _ (free : Blocks) (v : ℕ) (below : (b : ℕ) → v ≤ b → free b ≡
   longest_row = record {
     is_free = row_free free (longest (runs free v)).start (longest (runs free v)).count (λ b. omega (arith, longest_blocks (runs free v) b, free_of_runs free v b));
     is_longest = λ x all. no_row (suc (longest (runs free v)).count) (omega (arith, longest_count (runs free v))) x all;
-    is_lowest = λ x all. low (runs free v) (runs_exact.rising free v) (λ pos. omega (arith, (fits_at (most (runs free v)) x pos (subst (λ n. AllFree free x n) (longest_count (runs free v)) all)).low, longest_fit (runs free v)));
+    is_lowest = λ x all. low (runs free v) (runs_exact.rising free v) (λ pos. omega (arith, (fits_at (most (runs free v)) x pos (rw (longest_count (runs free v)) at all)).low, longest_fit (runs free v)));
   }
     where
       low : {x : ℕ} (rs : List Run) → Rising v 0 rs → (0 < most rs → (longest rs).start ≤ x) → (longest rs).start ≤ x

@@ -1,7 +1,7 @@
 -- A split takes as it is ruled: the longest run, and then the rest from what is left.
 use Rattle.std.proofs.Common.{◌≡◌, ℕ, zero, suc, ◌+◌, ◌-◌, ◌<◌, ◌≤◌, false, ◌&&◌, eqb, leb, List, [], ◌∷◌, length, sym, ap, subst, arith}
 use Rattle.std.proofs.lemmas.Bool.{leb-true, leb-false, cond_both}
-use Rattle.model.specs.Space.{Blocks, times, without, Run, runs, total, most, longest, others, split_up_to, whole, row, blocks_of}
+use Rattle.model.specs.Space.{Blocks, times, without, Run, runs, total, most, longest, others, split_up_to, row, blocks_of}
 use Rattle.model.specs.Ownership.{one_if}
 use Rattle.model.specs.Pieces.{Taken, last, more}
 use Rattle.model.specs.Exact.{Rising}
@@ -33,16 +33,16 @@ split_taken v (suc k) n free below short pos fits =
     let rs = runs free v in
     let l = longest rs in
     let rest : Blocks = without free (row l.start l.count) in
-    cond_both (leb n (most rs)) (whole n rs) (l ∷ split_up_to k (n - most rs) (others rs)) (λ qs. Taken free n (length qs) (blocks_of qs))
+    cond_both (leb n (most rs)) _ _ (λ qs. Taken free n (length qs) (blocks_of qs))
     (λ e. last (whole_lowest free v below n pos (leb-true n (most rs) e)))
     (λ e.
     let lt = leb-false n (most rs) e in
     let parts = sizes rs short fits lt in
     let left = others_left free v in
-    let ih = split_taken v k (n - most rs) rest (λ b ge. ap (λ x. x && eqb (times (row l.start l.count) b) 0) (below b ge)) (subst (λ os. length os ≤ k) (sym left) parts.0) (omega arith) (subst (λ os. n - most rs ≤ total os) (sym left) parts.1) in
+    let later = split_up_to k (n - most rs) (others rs) in
+    let ih = split_taken v k (n - most rs) rest (λ b ge. ap (λ x. x && eqb (times (row l.start l.count) b) 0) (below b ge)) (rw left parts.0) (omega arith) (rw left parts.1) in
     more (no_row free v below n lt) (longest_row free v below)
-    (subst (λ j. Taken rest (n - j) (length (split_up_to k (n - most rs) (others rs))) (blocks_of (split_up_to k (n - most rs) (others rs)))) (sym (longest_count rs))
-    (subst (λ os. Taken rest (n - most rs) (length (split_up_to k (n - most rs) os)) (blocks_of (split_up_to k (n - most rs) os))) left ih)))
+    (subst (λ j. Taken rest (n - j) (length later) (blocks_of later)) (sym (longest_count rs)) (rw left at ih)))
   where
     sizes : (rs : List Run) → length rs ≤ suc k → n ≤ total rs → most rs < n → (length (others rs) ≤ k) × (n - most rs ≤ total (others rs))
     sizes [] short fits lt = absurd (omega arith)
