@@ -1,16 +1,10 @@
 -- Small facts on tests and counts.
-use Rattle.std.proofs.Common.{◌≡◌, ℕ, ◌+◌, ◌<◌, ◌≤◌, Bool, true, false, ◌&&◌, eqb, arith}
+use Rattle.std.proofs.Common.{◌≡◌, ℕ, ◌+◌, ◌<◌, ◌≤◌, Bool, false, ◌&&◌, eqb, arith}
 use Rattle.std.proofs.lemmas.Bool.Decides.{nat_tests}
 use Rattle.model.specs.Ownership.{one_if}
 
 pub one_if_le : (x : Bool) → one_if x ≤ 1
 one_if_le x = grind arith
-
-pub is_true : (x : Bool) → 0 < one_if x → x ≡ true
-is_true x lt = grind arith
-
-pub is_false : (x : Bool) → one_if x ≡ 0 → x ≡ false
-is_false x e = grind arith
 
 pub positive : (n : ℕ) → eqb n 0 ≡ false → 0 < n
 positive n e = grind (arith, nat_tests)

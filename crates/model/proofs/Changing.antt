@@ -3,7 +3,6 @@ use Rattle.std.proofs.Common.{◌≡◌, ℕ, zero, suc, ◌+◌, ◌-◌, ◌<�
 use Rattle.std.proofs.lemmas.Bool.Decides.{nat_tests}
 use Rattle.std.proofs.lemmas.List.{places}
 use Rattle.std.proofs.lemmas.Bool.{and_parts}
-use Rattle.calls.specs.declared.kind.Kind.{Kind}
 use Rattle.calls.specs.declared.kind.Kind.TheVariants.{Hole, Reserved}
 use Rattle.model.specs.Places.{Place, hole, is_hole, all_holes, range, inserted, collapsed, punched, laid, reserved}
 
@@ -26,25 +25,27 @@ module _ (ps : List Place) (at n : ℕ) where
   pub punched_at : (k : ℕ) → at + n ≤ length ps → get_or (punched ps at n) k hole ≡ cond (leb at k && ltb k (at + n)) hole (get_or ps k hole)
   punched_at k le = grind (arith, places, nat_tests)
 
-pub length_laid : (bs : List ℕ) (ps : List Place) → length (laid bs ps) ≡ length ps
+length_laid : (bs : List ℕ) (ps : List Place) → length (laid bs ps) ≡ length ps
 length_laid [] ps = refl
 length_laid (b ∷ bs) [] = refl
 length_laid (b ∷ bs) (p ∷ ps) = ap suc (length_laid bs ps)
 
-pub laid_bytes : (bs : List ℕ) (ps : List Place) (k : ℕ) → (get_or (laid bs ps) k hole).bytes ≡ (get_or ps k hole).bytes
-laid_bytes [] ps k = refl
-laid_bytes (b ∷ bs) [] k = refl
-laid_bytes (b ∷ bs) (p ∷ ps) zero = refl
-laid_bytes (b ∷ bs) (p ∷ ps) (suc k) = laid_bytes bs ps k
+-- a place on which block b is laid
+abbrev pub reserved_on : ℕ → Place → Place
+reserved_on b p = record { kind = Reserved; block = b; bytes = p.bytes }
 
-pub length_reserved : (ps : List Place) (at : ℕ) (bs : List ℕ) → at ≤ length ps → length (reserved ps at bs) ≡ length ps
-length_reserved ps at bs le = grind (arith, places, length_laid bs (drop at ps))
+laid_at : (bs : List ℕ) (ps : List Place) (k : ℕ) → get_or (laid bs ps) k hole ≡ cond (ltb k (length bs) && ltb k (length ps)) (reserved_on (get_or bs k 0) (get_or ps k hole)) (get_or ps k hole)
+laid_at [] ps k = grind (arith, nat_tests)
+laid_at (b ∷ bs) [] k = grind (arith, nat_tests)
+laid_at (b ∷ bs) (p ∷ ps) zero = grind (arith, nat_tests)
+laid_at (b ∷ bs) (p ∷ ps) (suc k) = grind (arith, nat_tests, laid_at bs ps k)
 
-pub reserved_bytes : (ps : List Place) (at : ℕ) (bs : List ℕ) (k : ℕ) → at ≤ length ps → (get_or (reserved ps at bs) k hole).bytes ≡ (get_or ps k hole).bytes
-reserved_bytes ps at bs k le = grind (arith, places, laid_bytes bs (drop at ps) (k - at))
+module _ (ps : List Place) (at : ℕ) (bs : List ℕ) where
+  pub length_reserved : at ≤ length ps → length (reserved ps at bs) ≡ length ps
+  length_reserved le = grind (arith, places, length_laid bs (drop at ps))
 
-pub hole_is : (k : Kind) → is_hole k ≡ true → k ≡ Hole
-hole_is k e = grind arith
+  pub reserved_at : (k : ℕ) → at ≤ length ps → get_or (reserved ps at bs) k hole ≡ cond (leb at k && (ltb k (at + length bs) && ltb k (length ps))) (reserved_on (get_or bs (k - at) 0) (get_or ps k hole)) (get_or ps k hole)
+  reserved_at k le = grind (arith, places, nat_tests, laid_at bs (drop at ps) (k - at))
 
 -- a place of a range that is all holes
 pub holes_in : (ps : List Place) (at n k : ℕ) → at ≤ k → k < at + n → all_holes (range ps at n) ≡ true → (get_or ps k hole).kind ≡ Hole
@@ -54,16 +55,3 @@ holes_in (p ∷ ps) zero (suc n) zero from below all = grind arith
 holes_in (p ∷ ps) zero (suc n) (suc k) from below all = holes_in ps 0 n k (omega arith) (omega arith) (and_parts (is_hole p.kind) (all_holes (take n ps)) all).1
 holes_in (p ∷ ps) (suc at) n zero from below all = absurd (omega arith)
 holes_in (p ∷ ps) (suc at) n (suc k) from below all = holes_in ps at n k (omega arith) (omega arith) all
-
--- places that blocks are laid on, and those behind
-pub laid_kind : (bs : List ℕ) (ps : List Place) (k : ℕ) → k < length bs → k < length ps → (get_or (laid bs ps) k hole).kind ≡ Reserved
-laid_kind [] ps k lt under = absurd (omega arith)
-laid_kind (b ∷ bs) [] k lt under = absurd (omega arith)
-laid_kind (b ∷ bs) (p ∷ ps) zero lt under = refl
-laid_kind (b ∷ bs) (p ∷ ps) (suc k) lt under = laid_kind bs ps k (omega arith) (omega arith)
-
-pub laid_past : (bs : List ℕ) (ps : List Place) (k : ℕ) → length bs ≤ k → get_or (laid bs ps) k hole ≡ get_or ps k hole
-laid_past [] ps k le = refl
-laid_past (b ∷ bs) [] k le = refl
-laid_past (b ∷ bs) (p ∷ ps) zero le = absurd (omega arith)
-laid_past (b ∷ bs) (p ∷ ps) (suc k) le = laid_past bs ps k (omega arith)

@@ -20,6 +20,10 @@ pub row_below : (s n b : ℕ) → b < s → times (row s n) b ≡ 0
 row_below s zero b lt = refl
 row_below s (suc n) b lt = grind (arith, nat_tests, times_cons s (row (suc s) n) b, row_below (suc s) n b)
 
+pub row_once : (s n b : ℕ) → s ≤ b → b < s + n → times (row s n) b ≡ 1
+row_once s zero b le lt = absurd (omega arith)
+row_once s (suc n) b le lt = grind (arith, nat_tests, times_cons s (row (suc s) n) b, row_below (suc s) n b, row_once (suc s) n b)
+
 pub length_blocks : (rs : List Run) → length (blocks_of rs) ≡ total rs
 length_blocks [] = refl
 length_blocks (r ∷ rs) = grind (arith, length-append (row r.start r.count) (blocks_of rs), length_row r.start r.count, length_blocks rs)

@@ -1,12 +1,11 @@
 -- The free runs are the only rising rows that have just the free blocks.
-use Rattle.std.proofs.Common.{◌≡◌, ℕ, zero, suc, ◌+◌, ◌<◌, ◌≤◌, Bool, true, false, ltb, List, [], ◌∷◌, sym, refl, ap, ◌∙◌, ⊎_elim, arith}
+use Rattle.std.proofs.Common.{◌≡◌, ℕ, zero, suc, ◌+◌, ◌<◌, ◌≤◌, Bool, true, false, ltb, List, [], ◌∷◌, refl, ⊎_elim, arith}
 use Rattle.std.proofs.lemmas.Bool.Decides.{nat_tests}
-use Rattle.std.proofs.lemmas.Bool.{lt-ltb, cases_lt}
+use Rattle.std.proofs.lemmas.Bool.{cases_lt}
 use Rattle.model.specs.Space.{Blocks, times, Run, run_before, runs_from, runs, row, blocks_of}
 use Rattle.model.specs.Ownership.{one_if}
 use Rattle.model.specs.Exact.{Rising, RunsExact}
-use Rattle.model.proofs.Basics.{is_false}
-use Rattle.model.proofs.Choosing.{times_cons, times_append, row_below, times_before, runs_once}
+use Rattle.model.proofs.Choosing.{times_cons, times_append, row_below, row_once, times_before, runs_once}
 
 pub rising_weaker : (v s t : ℕ) (rs : List Run) → t ≤ s → Rising v s rs → Rising v t rs
 rising_weaker v s t [] le r = tt
@@ -36,9 +35,6 @@ before_gap : (v s : ℕ) (rs : List Run) → Rising v (suc (s + 1)) rs → run_b
 before_gap v s [] r = refl
 before_gap v s (r ∷ rs) q = grind (arith, nat_tests)
 
-before_touching : (s n : ℕ) (rs : List Run) → run_before true s (record { start = suc s; count = n } ∷ rs) ≡ record { start = s; count = suc n } ∷ rs
-before_touching s n rs = grind (arith, nat_tests)
-
 -- the runs have just the free blocks from s up to v
 abbrev Just : Blocks → ℕ → ℕ → List Run → Type 0
 Just free s v rs = (b : ℕ) → s ≤ b → b < v → times (blocks_of rs) b ≡ one_if (free b)
@@ -56,19 +52,19 @@ first_run free v n s (suc (suc c)) rs q just ih =
     let open_here : free s ≡ true = grind (arith, nat_tests, just s, times_cons s (blocks_of l) s) in
     let up : Rising v (suc s) l = (omega arith, omega arith, omega (arith, q.2), rising_weaker v (suc (s + suc (suc c))) (suc (suc s + suc c)) rs (omega arith) q.3) in
     let later = ih l up (λ b le lt. grind (arith, nat_tests, times_cons s (blocks_of l) b, just b)) in
-    rw (open_here, later) (before_touching s (suc c) rs)
+    rw (open_here, later) (grind (arith, nat_tests))
 
 runs_only : (free : Blocks) (v n s : ℕ) (rs : List Run) → s + n ≡ v → Rising v s rs → Just free s v rs → runs_from free s n ≡ rs
 runs_only free v zero s [] e r all = refl
 runs_only free v zero s (r ∷ rs) e q all = absurd (omega (arith, q.0, q.1, q.2))
 runs_only free v (suc n) s [] e r all =
-    let shut = is_false (free s) (sym (all s (omega arith) (omega arith))) in
+    let shut : free s ≡ false = grind (arith, all s) in
     rw (shut, runs_only free v n (suc s) [] (omega arith) tt (λ b le lt. all b (omega arith) lt))
 runs_only free v (suc n) s (r ∷ rs) e q all =
     ⊎_elim
     (λ lt.
     let higher : Rising v (suc s) (r ∷ rs) = (lt, q.1, q.2, q.3) in
-    let shut = is_false (free s) (sym (all s (omega arith) (omega arith)) ∙ rising_none v (suc s) s (r ∷ rs) higher (omega arith)) in
+    let shut : free s ≡ false = grind (arith, all s, rising_none v (suc s) s (r ∷ rs) higher) in
     rw (shut, runs_only free v n (suc s) (r ∷ rs) (omega arith) higher (λ b le lt'. all b (omega arith) lt')))
     (λ ge.
     let same : s ≡ r.start = omega (arith, q.0) in
@@ -86,8 +82,4 @@ runs_exact = record {
 pub fresh_runs : (v : ℕ) → 0 < v → runs (λ b. ltb b v) v ≡ record { start = 0; count = v } ∷ []
 fresh_runs v pos =
     runs_exact.only (λ b. ltb b v) v (record { start = 0; count = v } ∷ []) (omega arith, pos, omega arith, tt)
-    (λ b lt. times_append (row 0 v) [] b ∙ omega (arith, one_each 0 v b (omega arith) (omega arith), ap one_if (lt-ltb b v lt)))
-  where
-    one_each : (s n b : ℕ) → s ≤ b → b < s + n → times (row s n) b ≡ 1
-    one_each s zero b le lt = absurd (omega arith)
-    one_each s (suc n) b le lt = grind (arith, nat_tests, times_cons s (row (suc s) n) b, row_below (suc s) n b, one_each (suc s) n b)
+    (λ b lt. grind (arith, nat_tests, times_append (row 0 v) [] b, row_once 0 v b))

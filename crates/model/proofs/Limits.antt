@@ -1,12 +1,13 @@
 -- Limits: what every run keeps within.
-use Rattle.std.proofs.Common.{◌≡◌, ℕ, zero, suc, ◌+◌, ◌-◌, ◌<◌, ◌≤◌, true, false, cond, ltb, List, [], ◌∷◌, length, get_or, take, drop, set, replicate, refl, ◌∙◌, ⊎_elim, arith, length-set}
+use Rattle.std.proofs.Common.{◌≡◌, ℕ, ◌+◌, ◌-◌, ◌<◌, ◌≤◌, true, false, cond, ltb, List, [], ◌∷◌, length, get_or, set, replicate, refl, ◌∙◌, ⊎_elim, arith, length-set}
 use Rattle.std.proofs.lemmas.List.Sums.{sum_by-set}
-use Rattle.std.proofs.lemmas.List.{places, get_or-set_same, get_or-set_other, get_or-drop}
-use Rattle.std.proofs.lemmas.Bool.{ltb-false, leb-false, eqb-true, and_parts, not-false, cases_eq, cases_lt}
+use Rattle.std.proofs.lemmas.Bool.Decides.{nat_tests}
+use Rattle.std.proofs.lemmas.List.{places, get_or-set_same, get_or-set_other}
+use Rattle.std.proofs.lemmas.Bool.{ltb-false, leb-false, eqb-true, not-false, cases_eq}
 use Rattle.calls.specs.declared.kind.Kind.TheVariants.{Written}
 use Rattle.calls.specs.declared.call.Call.{Call}
 use Rattle.calls.specs.declared.call.Call.TheVariants.{Insert, Collapse, Punch, ReserveWhole, ReserveSplit, Write, Read, Find, Length, Tally, Map, Drop}
-use Rattle.model.specs.Places.{Place, hole, is_hole, is_reserved, all_holes, range, inserted, collapsed, punched, laid, reserved}
+use Rattle.model.specs.Places.{Place, hole, is_hole, is_reserved, all_holes, range, inserted, collapsed, punched, reserved}
 use Rattle.model.specs.Extents.{extents, cut}
 use Rattle.model.specs.Space.{Blocks, Run, total, most, split, whole, blocks_of}
 use Rattle.card.specs.Sizes.{block_size}
@@ -18,18 +19,11 @@ use Rattle.model.proofs.Basics.{positive}
 use Rattle.model.proofs.Settled.{Clear, step_both}
 use Rattle.model.proofs.Choosing.{some_run, fit_count, split_total}
 use Rattle.model.proofs.Owners.{whole_long, split_long}
-use Rattle.model.proofs.Changing.{inserted_at, collapsed_at, punched_at, length_inserted, length_collapsed, length_punched, length_reserved}
+use Rattle.model.proofs.Changing.{inserted_at, collapsed_at, punched_at, length_inserted, length_collapsed, length_punched, length_reserved, reserved_at, holes_in}
 use Rattle.model.proofs.Entries.{ext, inserted_ext, collapsed_ext, punched_ext, reserved_ext, set_ext, set_same}
 
 hole_tidy : Tidy hole
 hole_tidy = (refl, refl)
-
--- blocks laid on holes
-laid_tidy : (bs : List ℕ) (ps : List Place) → all_holes (take (length bs) ps) ≡ true → ((k : ℕ) → Tidy (get_or ps k hole)) → (k : ℕ) → Tidy (get_or (laid bs ps) k hole)
-laid_tidy [] ps holes all k = all k
-laid_tidy (b ∷ bs) [] holes all k = all k
-laid_tidy (b ∷ bs) (p ∷ ps) holes all zero = grind (arith, all 0)
-laid_tidy (b ∷ bs) (p ∷ ps) holes all (suc k) = laid_tidy bs ps (and_parts (is_hole p.kind) (all_holes (take (length bs) ps)) holes).1 (λ j. all (suc j)) k
 
 module _ {c : Config} {m : Model} (w : Within c m) (f : ℕ) (lt : f < file_count) where
   inside : f < length m.files
@@ -76,12 +70,7 @@ module _ {c : Config} {m : Model} (w : Within c m) (f : ℕ) (lt : f < file_coun
       let bs = blocks_of qs in
       let le' : at ≤ length ps = omega arith in
       changed (reserved ps at bs) (reserve m f at bs).free (omega (arith, length_reserved ps at bs le', w.places f)) (omega (arith, reserved_ext ps at n qs all pos le, room _ e))
-      (λ k. ⊎_elim
-      (λ under. let same : get_or (reserved ps at bs) k hole ≡ get_or ps k hole = grind (arith, places) in rw same (w.tidy f k))
-      (λ over.
-      let same : get_or (reserved ps at bs) k hole ≡ get_or (laid bs (drop at ps)) (k - at) hole = grind (arith, places) in
-      rw same (laid_tidy bs (drop at ps) (rw long holes) (λ j. rw (get_or-drop at ps j hole) (w.tidy f (at + j))) (k - at)))
-      (cases_lt k at))
+      (λ k. rw (reserved_at ps at bs k le') (grind (arith, nat_tests, holes_in ps at n k, w.tidy f k)))
 
   write_within : (at : ℕ) (bytes : List ℕ) → at < length (file m f) → length bytes ≡ block_size → is_hole (place m f at).kind ≡ false → ltb (spare c m) (cond (is_reserved (place m f at).kind) (both_cuts m f at 1) 0) ≡ false → Within c (write m f at bytes)
   write_within at bytes under full solid e =

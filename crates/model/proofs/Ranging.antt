@@ -1,5 +1,6 @@
 -- What each granted call does to its file, place by place.
-use Rattle.std.proofs.Common.{◌≡◌, ℕ, ◌+◌, ◌-◌, ◌<◌, ◌≤◌, true, List, [], length, get_or, drop, set, Result, sym, refl, ap, ◌∙◌, subst, arith, length-set}
+use Rattle.std.proofs.Common.{◌≡◌, ℕ, ◌+◌, ◌<◌, ◌≤◌, true, List, [], length, get_or, set, Result, refl, arith, length-set}
+use Rattle.std.proofs.lemmas.Bool.Decides.{nat_tests}
 use Rattle.std.proofs.lemmas.List.{places, get_or-set_same, get_or-set_other}
 use Rattle.std.proofs.lemmas.Bool.{ltb-false, leb-false, not-false}
 use Rattle.calls.specs.declared.kind.Kind.TheVariants.{Hole, Written}
@@ -16,7 +17,7 @@ use Rattle.model.specs.Replay.{reached}
 use Rattle.model.specs.Limits.{Tidy, Within}
 use Rattle.model.specs.Ranges.{nth, Opened, Closed, Cleared, Backed, Stored, Plain, InPieces, Does, Changes, RangeCalls}
 use Rattle.model.proofs.Settled.{Clear, step_both, refused_some}
-use Rattle.model.proofs.Changing.{length_reserved, reserved_bytes, laid_kind, laid_past, holes_in}
+use Rattle.model.proofs.Changing.{length_reserved, reserved_at, holes_in}
 use Rattle.model.proofs.Owners.{whole_long, split_long}
 use Rattle.model.proofs.Limits.{limits_kept}
 
@@ -36,20 +37,14 @@ hole_place p e t = grind arith
 backed : (ps : List Place) (at n : ℕ) (bs : List ℕ) → length bs ≡ n → at + n ≤ length ps → all_holes (range ps at n) ≡ true → ((k : ℕ) → Tidy (nth ps k)) → Backed at n ps (reserved ps at bs)
 backed ps at n bs many le holes tidy = record {
   long = length_reserved ps at bs (omega arith);
-  front = λ k lt. grind (arith, places);
-  inside = λ k from to.
-      let was = hole_place (nth ps k) (holes_in ps at n k from to holes) (tidy k) in
-      record {
-        was = was;
-        kind = grind (arith, places, laid_kind bs (drop at ps) (k - at));
-        bytes = reserved_bytes ps at bs k (omega arith) ∙ ap (λ (p : Place). p.bytes) was;
-      };
-  behind = λ k from. grind (arith, places, laid_past bs (drop at ps) (k - at));
+  front = λ k lt. rw (reserved_at ps at bs k (omega arith)) (grind (arith, nat_tests));
+  inside = λ k from to. let was = hole_place (nth ps k) (holes_in ps at n k from to holes) (tidy k) in rw (reserved_at ps at bs k (omega arith)) (grind (arith, nat_tests, was));
+  behind = λ k from. rw (reserved_at ps at bs k (omega arith)) (grind (arith, nat_tests));
 }
 
 module _ (c : Config) (m : Model) (w : Within c m) (f at n : ℕ) (buffer : List ℕ) where
   changed : (ps : List Place) (Change : List Place → List Place → Type 0) → f < file_count → Change (file m f) ps → Change (file m f) (get_or (set m.files f ps) f [])
-  changed ps Change lt so = subst (Change (file m f)) (sym (get_or-set_same m.files f ps [] (omega (arith, w.files)))) so
+  changed ps Change lt so = rw (get_or-set_same m.files f ps [] (omega (arith, w.files))) so
 
   does : (call : Call) (Says : Result Answer Refusal → Type 0) (Change : List Place → List Place → Type 0)
       → (Clear (reasons c m call buffer) → Says (granted c m call buffer).answer × ((granted c m call buffer).buffer ≡ buffer) × Change (file m f) (file (granted c m call buffer).next f)) → Does c m call buffer f Says Change

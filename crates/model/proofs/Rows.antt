@@ -6,20 +6,14 @@ use Rattle.model.specs.Space.{Blocks, times, Run, runs, most, longest, lowest_fi
 use Rattle.model.specs.Ownership.{one_if}
 use Rattle.model.specs.Pieces.{AllFree, LowestRow, LongestRow}
 use Rattle.model.specs.Exact.{Rising}
-use Rattle.model.proofs.Basics.{is_true}
-use Rattle.model.proofs.Choosing.{times_cons, parted, longest_count, fit_count}
+use Rattle.model.proofs.Choosing.{row_once, parted, longest_count, fit_count}
 use Rattle.model.proofs.Owners.{free_of_runs, whole_free}
 use Rattle.model.proofs.Lowest.{Fits, fits_from}
 use Rattle.model.proofs.ExactRuns.{runs_exact}
 
-row_has : (s n i : ℕ) → i < n → 0 < times (row s n) (s + i)
-row_has s zero i lt = absurd (omega arith)
-row_has s (suc n) zero lt = grind (arith, nat_tests, times_cons s (row (suc s) n) (s + 0))
-row_has s (suc n) (suc i) lt = grind (arith, times_cons s (row (suc s) n) (s + suc i), row_has (suc s) n i)
-
 -- a row whose blocks are all free, counted
 row_free : (free : Blocks) (s n : ℕ) → ((b : ℕ) → times (row s n) b ≤ one_if (free b)) → AllFree free s n
-row_free free s n within i lt = is_true (free (s + i)) (omega (arith, row_has s n i lt, within (s + i)))
+row_free free s n within i lt = grind (arith, row_once s n (s + i), within (s + i))
 
 -- the lowest fit of the greatest length is the longest run
 longest_fit : (rs : List Run) → (lowest_fit (most rs) rs).start ≡ (longest rs).start

@@ -31,19 +31,13 @@ granted_zero c m call buffer = grind arith
 pub refused_some : (w : Refusal) → 0 < refusal_number w
 refused_some w = grind arith
 
-settled_why : (m : Model) (buffer : List ℕ) (o : Option Refusal) (g : Outcome) (w : Refusal) → answer_number g.answer ≡ 0 → (settled m buffer o g).answer ≡ Err w → o ≡ Some w
-settled_why m buffer o g w none e = grind (arith, refused_some)
-
 -- what a refusal says of the reasons
 pub step_why : (c : Config) (m : Model) (call : Call) (buffer : List ℕ) (w : Refusal) → (step c m call buffer).answer ≡ Err w → first (reasons c m call buffer) ≡ Some w
-step_why c m call buffer w e = settled_why m buffer (first (reasons c m call buffer)) (granted c m call buffer) w (granted_zero c m call buffer) e
-
-settled_none : (m : Model) (buffer : List ℕ) (o : Option Refusal) (g : Outcome) → answer_number (settled m buffer o g).answer ≡ 0 → o ≡ None
-settled_none m buffer o g e = grind (arith, refused_some)
+step_why c m call buffer w e = grind (arith, refused_some, granted_zero c m call buffer)
 
 -- what a grant says of the reasons
 pub step_none : (c : Config) (m : Model) (call : Call) (buffer : List ℕ) → answer_number (step c m call buffer).answer ≡ 0 → first (reasons c m call buffer) ≡ None
-step_none c m call buffer e = settled_none m buffer (first (reasons c m call buffer)) (granted c m call buffer) e
+step_none c m call buffer e = grind (arith, refused_some)
 
 -- each reason that holds while none before it does has property G
 abbrev pub FirstHas : (Refusal → Type 0) → List Reason → Type 0

@@ -17,7 +17,7 @@ use Rattle.model.specs.Replay.{Request, run, reached}
 use Rattle.model.specs.History.{granted_first, was, origin, traced, bytes_of, resized, length_of, Contents}
 use Rattle.model.proofs.Limits.{fresh_file}
 use Rattle.model.proofs.Settled.{Clear, step_both, granted_zero, refused_some}
-use Rattle.model.proofs.Changing.{length_inserted, length_collapsed, length_punched, length_reserved, inserted_at, collapsed_at, punched_at, reserved_bytes}
+use Rattle.model.proofs.Changing.{length_inserted, length_collapsed, length_punched, length_reserved, inserted_at, collapsed_at, punched_at, reserved_at}
 
 -- the store agrees with a history
 pub record Agrees (m : Model) (past : List Request) : Type 0 where
@@ -65,7 +65,7 @@ module _ {m : Model} {past : List Request} (a : Agrees m past) (f : ℕ) (lt : f
       let long = length_reserved ps at bs le in
       told call (reserved ps at bs) (reserve m f at bs).free on
       (long ∙ a.longs f lt ∙ sym (size (length_of past f)))
-      (λ k under. reserved_bytes ps at bs k le ∙ a.shows f k lt (omega arith) ∙ sym (ap (traced (bytes_of past f)) (stays k)))
+      (λ k under. rw (reserved_at ps at bs k le) (grind (arith, long, a.shows f k lt, stays k)))
 
   pub write_told : (at : ℕ) → at < length (file m f) → Agrees (write m f at buffer) (record { call = Write f at; buffer = buffer } ∷ past)
   write_told at under =

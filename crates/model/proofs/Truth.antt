@@ -10,14 +10,14 @@ use Rattle.calls.specs.Calls.{concerns}
 use Rattle.calls.specs.Refusals.{refusal_number}
 use Rattle.model.specs.Places.{Place, hole, is_hole, all_holes, range}
 use Rattle.model.specs.Space.{total, most, longest, split, blocks_of, most_pieces}
-use Rattle.model.specs.Store.{Config, Model, file_count, file, place, spare, both_cuts, free_runs}
+use Rattle.model.specs.Store.{Config, Model, file_count, file, spare, both_cuts, free_runs}
 use Rattle.model.specs.Rules.{Reason, first, reasons}
 use Rattle.model.specs.Replay.{reached}
 use Rattle.model.specs.Pieces.{Choice, AllFree, pieces}
 use Rattle.model.specs.Grounds.{count_of, reach, Ground, no_file, no_count, out_of_file, too_long, write_buffer, read_buffer, map_buffer, whole_kind, split_kind, write_kind, no_space, no_run, too_many, insert_entries, collapse_entries, punch_entries, whole_entries, split_entries, write_entries, worn, Truthful, RefusalsTrue}
 use Rattle.model.proofs.Basics.{positive}
 use Rattle.std.proofs.lemmas.Bool.Decides.{nat_tests}
-use Rattle.model.proofs.Changing.{hole_is, holes_in}
+use Rattle.model.proofs.Changing.{holes_in}
 use Rattle.model.proofs.Settled.{step_why, step_none, FirstHas, first_has}
 use Rattle.model.proofs.Owners.{Sound, reached_sound, free_below}
 use Rattle.model.proofs.Choosing.{longest_count}
@@ -77,15 +77,6 @@ self f = eq-eqb f f refl
 
 -- the grounds and the reasons of one call
 module _ (c : Config) (m : Model) (s : Sound c.volume m) where
-  file_listed : (call : Call) (buffer : List ℕ) (g : ℕ) → concerns call g ≡ true → file_count ≤ g → Listed (reasons c m call buffer) NoFile
-  file_listed call buffer g e le = grind (arith, nat_tests)
-
-  count_listed : (call : Call) (buffer : List ℕ) → count_of call ≡ Some 0 → Listed (reasons c m call buffer) NoCount
-  count_listed call buffer e = grind (arith, nat_tests)
-
-  reach_listed : (call : Call) (buffer : List ℕ) (g : ℕ) → concerns call g ≡ true → length (file m g) < reach call → Listed (reasons c m call buffer) OutOfFile
-  reach_listed call buffer g e lt = grind (arith, nat_tests)
-
   below : (b : ℕ) → c.volume ≤ b → m.free b ≡ false
   below = free_below c m s
 
@@ -117,9 +108,9 @@ module _ (c : Config) (m : Model) (s : Sound c.volume m) where
 
   -- a ground is a reason that holds
   listed : {call : Call} {buffer : List ℕ} {w : Refusal} → Ground c m call buffer w → Listed (reasons c m call buffer) w
-  listed {call = call} {buffer = buffer} (no_file f e le) = file_listed call buffer f e le
-  listed {call = call} {buffer = buffer} (no_count e) = count_listed call buffer e
-  listed {call = call} {buffer = buffer} (out_of_file f e lt) = reach_listed call buffer f e lt
+  listed {call = call} (no_file f e le) = grind (arith, nat_tests)
+  listed {call = call} (no_count e) = grind (arith, nat_tests)
+  listed {call = call} (out_of_file f e lt) = grind (arith, nat_tests)
   listed (too_long lt) = grind (arith, nat_tests)
   listed (write_buffer ne) = grind (arith, nat_tests)
   listed (read_buffer ne) = grind (arith, nat_tests)
@@ -186,7 +177,7 @@ module _ (c : Config) (m : Model) (s : Sound c.volume m) where
       on_place (Write f at) buffer f at (self f) refl (
         λ h. write_buffer (eqb-false _ _ (not-true _ h)),
         λ _. (
-          λ h. write_kind (hole_is (place m f at).kind h),
+          λ h. write_kind (grind arith),
           λ _. (
             λ h. grind (arith, nat_tests, write_entries),
             λ _.
