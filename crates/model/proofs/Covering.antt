@@ -1,5 +1,6 @@
 -- No choice has fewer pieces than the split.
 use Rattle.std.proofs.Common.{◌≡◌, ℕ, zero, suc, ◌+◌, ◌-◌, ◌<◌, ◌≤◌, max, Bool, true, false, cond, not, eqb, ltb, List, [], ◌∷◌, length, count_by, sym, refl, ap, ◌∙◌, arith}
+use Rattle.std.proofs.lemmas.List.Recursion.{is_count_by}
 use Rattle.std.proofs.lemmas.List.Sums.{sum_by-cons}
 use Rattle.std.proofs.lemmas.Bool.{ltb-true, eqb-false, cond_both}
 use Rattle.std.proofs.lemmas.Bool.Decides.{nat_tests}
@@ -15,7 +16,7 @@ pub data Sub : List Run → List Run → Type 0 where
   skip : {r : Run} {xs rs : List Run} → Sub xs rs → Sub xs (r ∷ rs)
   keep : {r : Run} {xs rs : List Run} → Sub xs rs → Sub (r ∷ xs) (r ∷ rs)
 
-pub sub_none : (rs : List Run) → Sub [] rs
+sub_none : (rs : List Run) → Sub [] rs
 sub_none [] = none
 sub_none (r ∷ rs) = skip (sub_none rs)
 
@@ -79,22 +80,18 @@ pub tally_none : (p : ℕ → Bool) (b s n : ℕ) → b < s → tally (λ x. con
 tally_none p b s zero lt = refl
 tally_none p b s (suc n) lt = grind (arith, nat_tests, tally_none p b (suc s) n)
 
-pub tally_one : (p : ℕ → Bool) (b s n : ℕ) → s ≤ b → b < s + n → tally (λ x. cond (p x) (one_if (eqb b x)) 0) s n ≡ one_if (p b)
+tally_one : (p : ℕ → Bool) (b s n : ℕ) → s ≤ b → b < s + n → tally (λ x. cond (p x) (one_if (eqb b x)) 0) s n ≡ one_if (p b)
 tally_one p b s zero le lt = absurd (omega arith)
 tally_one p b s (suc n) le lt = grind (arith, nat_tests, tally_none p b (suc s) n, tally_one p b (suc s) n)
 
 -- counting over a list of blocks below v is counting over the blocks
-pub over_blocks : (p : ℕ → Bool) (v : ℕ) (bs : List ℕ) → ((b : ℕ) → v ≤ b → times bs b ≡ 0) → count_by p bs ≡ tally (λ x. cond (p x) (times bs x) 0) 0 v
+over_blocks : (p : ℕ → Bool) (v : ℕ) (bs : List ℕ) → ((b : ℕ) → v ≤ b → times bs b ≡ 0) → count_by p bs ≡ tally (λ x. cond (p x) (times bs x) 0) 0 v
 over_blocks p v [] below = sym (tally_zero p 0 v)
 over_blocks p v (b ∷ bs) below =
     let under : b < v = grind (arith, nat_tests, below b, times_cons b bs b) in
     let rest = over_blocks p v bs (λ x ge. omega (arith, below x ge, times_cons b bs x)) in
     let sum = tally_sum p (times (b ∷ bs)) (λ x. one_if (eqb b x)) (times bs) 0 v (times_cons b bs) in
     sum_by-cons (λ x. cond (p x) 1 0) b bs ∙ omega (arith, rest, sum, tally_one p b 0 v (omega arith) (omega arith))
-
-length_count : (bs : List ℕ) → count_by (λ _. true) bs ≡ length bs
-length_count [] = refl
-length_count (b ∷ bs) = sum_by-cons (λ _. 1) b bs ∙ omega (arith, length_count bs)
 
 -- the first run is kept, and starts at s
 pub data Headed (s : ℕ) : List Run → List Run → Type 0 where
@@ -164,46 +161,40 @@ pub record Cover (free : Blocks) (bs : List ℕ) (s n : ℕ) (rs : List Run) : T
 
 -- a choice of free blocks, none twice, lies in as many runs as it has pieces, or fewer
 module _ (free : Blocks) (bs : List ℕ) (apart : (b : ℕ) → times bs b ≤ one_if (free b)) where
-  cover_more : (s n : ℕ) (x : Bool) → free s ≡ x → (t : ℕ) → times bs s ≡ t → t ≤ one_if x → (rs : List Run) → (n ≡ 0 → rs ≡ []) → Cover free bs (suc s) n rs → Cover free bs s (suc n) (run_before x s rs)
-  cover_more s n false fe zero te le rs last old = record {
+  cover_more : (s n : ℕ) (x : Bool) → free s ≡ x → Cover free bs (suc s) n (runs_from free (suc s) n) → Cover free bs s (suc n) (run_before x s (runs_from free (suc s) n))
+  cover_more s n false fe old = record {
     picked = old.picked;
     sub = old.sub;
-    wide = omega (arith, old.wide);
-    short = grind (arith, nat_tests, old.short);
-    head = λ _ some. absurd (omega arith);
+    wide = grind (arith, apart s, old.wide);
+    short = grind (arith, nat_tests, apart s, old.short);
+    head = λ _ some. absurd (grind (arith, apart s));
   }
-  cover_more s n false fe (suc t) te le rs last old = absurd (omega arith)
-  cover_more s n true fe zero te le rs last old =
-      let p = pass s old.sub in
-      record {
-        picked = p.picked;
-        sub = p.sub;
-        wide = omega (arith, old.wide, p.wide);
-        short = grind (arith, nat_tests, old.short, p.short);
-        head = λ _ some. absurd (omega arith);
-      }
-  cover_more s n true fe (suc t) te le rs last old = go n rs last old (times bs (suc s)) refl
+  cover_more s n true fe old = go n old (times bs s) refl (times bs (suc s)) refl
     where
       both : begins bs s + continues bs s ≡ times bs s
       both = grind arith
 
-      grown : (n : ℕ) (rs : List Run) (room few : ℕ) → Grown s (run_before true s rs) room few → suc (tally (λ x. times bs x) (suc s) n) ≤ room → few ≤ suc (tally (begins bs) (suc s) n) → Cover free bs s (suc n) (run_before true s rs)
-      grown n rs room few g a b = record {
+      grown : (n room few : ℕ) → Grown s (run_before true s (runs_from free (suc s) n)) room few → 0 < times bs s → suc (tally (λ x. times bs x) (suc s) n) ≤ room → few ≤ suc (tally (begins bs) (suc s) n) → Cover free bs s (suc n) (run_before true s (runs_from free (suc s) n))
+      grown n room few g some a b = record {
         picked = g.picked;
         sub = headed_sub g.head;
-        wide = omega (arith, g.wide, a);
-        short = omega (arith, g.short, b, both);
+        wide = grind (arith, apart s, g.wide);
+        short = omega (arith, g.short, both);
         head = λ _ _. g.head;
       }
 
-      go : (n : ℕ) (rs : List Run) → (n ≡ 0 → rs ≡ []) → Cover free bs (suc s) n rs → (u : ℕ) → times bs (suc s) ≡ u → Cover free bs s (suc n) (run_before true s rs)
-      go n rs last old zero ue = grown n rs _ _ (grow s old.sub) (omega (arith, old.wide)) (omega (arith, old.short, continues_le bs (suc s)))
-      go zero rs last old (suc u) ue = rw (last refl) (grown zero [] _ _ (grow s none) (omega arith) (omega arith))
-      go (suc n) rs last old (suc u) ue = grown (suc n) rs _ _ (grow_head s (old.head (omega arith) (omega arith))) (omega (arith, old.wide)) (omega (arith, old.short, continues_le bs (suc s), apart (suc s), one_if_le (free (suc s))))
+      go : (n : ℕ) → Cover free bs (suc s) n (runs_from free (suc s) n) → (t : ℕ) → times bs s ≡ t → (u : ℕ) → times bs (suc s) ≡ u → Cover free bs s (suc n) (run_before true s (runs_from free (suc s) n))
+      go n old zero te u ue =
+          let p = pass s old.sub in
+          record { picked = p.picked; sub = p.sub; wide = omega (arith, old.wide, p.wide); short = grind (arith, nat_tests, old.short, p.short); head = λ _ some. absurd (omega arith) }
+      go n old (suc t) te zero ue = grown n _ _ (grow s old.sub) (omega arith) (omega (arith, old.wide)) (omega (arith, old.short, continues_le bs (suc s)))
+      go zero old (suc t) te (suc u) ue = grown zero _ _ (grow s none) (omega arith) (omega arith) (omega arith)
+      go (suc n) old (suc t) te (suc u) ue =
+          grown (suc n) _ _ (grow_head s (old.head (omega arith) (omega arith))) (omega arith) (omega (arith, old.wide)) (omega (arith, old.short, continues_le bs (suc s), apart (suc s), one_if_le (free (suc s))))
 
-  pub cover : (s n : ℕ) → Cover free bs s n (runs_from free s n)
+  cover : (s n : ℕ) → Cover free bs s n (runs_from free s n)
   cover s zero = record { picked = []; sub = none; wide = omega arith; short = omega arith; head = λ lt _. absurd (omega arith) }
-  cover s (suc n) = cover_more s n (free s) refl (times bs s) refl (apart s) (runs_from free (suc s) n) (λ e. ap (runs_from free (suc s)) e) (cover (suc s) n)
+  cover s (suc n) = cover_more s n (free s) refl (cover (suc s) n)
 
   -- over the whole volume
   module _ (v : ℕ) (below : (b : ℕ) → v ≤ b → free b ≡ false) where
@@ -215,4 +206,4 @@ module _ (free : Blocks) (bs : List ℕ) (apart : (b : ℕ) → times bs b ≤ o
         let c = cover 0 v in
         let long = over_blocks (λ _. true) v bs unheld in
         let rows = over_blocks (λ b. not (preceded bs b)) v bs unheld in
-        (c.picked, c.sub, omega (arith, c.wide, long, length_count bs), omega (arith, c.short, rows))
+        (c.picked, c.sub, omega (arith, c.wide, long, is_count_by {X = ℕ} length (λ _. true) refl (λ _ _. omega arith) bs), omega (arith, c.short, rows))

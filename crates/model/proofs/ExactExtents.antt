@@ -107,17 +107,14 @@ stood k b (e ∷ es) zb l z =
     (λ q.
     let both = and_parts (same_kind k e.kind) (is_hole k || eqb (suc b) e.block) q in
     let same = kinds_same k e.kind both.0 in
-    let to = next_is k b e.block zb (λ h. z (sym (ap is_hole same) ∙ h)) both.1 in
+    let to = next_is k b e.block zb (rw same z) both.1 in
     record {
       spreads = ap₂ (λ j a. record { kind = k; block = b } ∷ (stretch j a e.count ++ spread es)) same to;
       longest = (behind e.count same to l.0, l.1);
       zeroed = zb;
     })
-    (λ q. record { spreads = refl; longest = (apart q, l); zeroed = zb })
+    (λ q. record { spreads = refl; longest = (λ same to. false≢true (sym q ∙ ap₂ (goes_on k b) same to ∙ goes_on_next k b), l); zeroed = zb })
   where
-    apart : goes_on k b e.kind e.block ≡ false → e.kind ≡ k → e.block ≡ next k b → ⊥
-    apart off same to = false≢true (sym off ∙ ap₂ (goes_on k b) same to ∙ goes_on_next k b)
-
     behind : (n : ℕ) → k ≡ e.kind → next k b ≡ e.block → Ends e.kind e.block n es → Apart k (last_block k b n) es
     behind zero same to a = elim a [ ]
     behind (suc n) same to a = subst (λ j. Apart j (last_block j (next k b) n) es) (sym same) (rw to a)

@@ -1,5 +1,5 @@
 -- Limits: what every run keeps within.
-use Rattle.std.proofs.Common.{◌≡◌, ℕ, ◌+◌, ◌-◌, ◌<◌, ◌≤◌, true, false, cond, ltb, List, [], ◌∷◌, length, get_or, set, replicate, refl, ◌∙◌, ⊎_elim, arith, length-set}
+use Rattle.std.proofs.Common.{◌≡◌, ℕ, ◌+◌, ◌-◌, ◌<◌, ◌≤◌, true, false, cond, ltb, List, [], length, get_or, set, replicate, refl, ◌∙◌, ⊎_elim, arith, length-set}
 use Rattle.std.proofs.lemmas.List.Sums.{sum_by-set}
 use Rattle.std.proofs.lemmas.Bool.Decides.{nat_tests}
 use Rattle.std.proofs.lemmas.List.{places, get_or-set_same, get_or-set_other}
@@ -12,11 +12,10 @@ use Rattle.model.specs.Extents.{extents, cut}
 use Rattle.model.specs.Space.{Blocks, Run, total, most, split, whole, blocks_of}
 use Rattle.card.specs.Sizes.{block_size}
 use Rattle.model.specs.Store.{Config, Model, fresh, file, place, with_file, extent_count, spare, free_runs, both_cuts, insert, collapse, punch, reserve, write, empty, file_count, most_places}
-use Rattle.model.specs.Rules.{reasons, granted, step}
-use Rattle.model.specs.Replay.{Request, run}
+use Rattle.model.specs.Rules.{reasons, granted}
 use Rattle.model.specs.Limits.{Tidy, Within, LimitsKept}
 use Rattle.model.proofs.Basics.{positive}
-use Rattle.model.proofs.Settled.{Clear, step_both}
+use Rattle.model.proofs.Settled.{Clear, run_keeps}
 use Rattle.model.proofs.Choosing.{some_run, fit_count, split_total}
 use Rattle.model.proofs.Owners.{whole_long, split_long}
 use Rattle.model.proofs.Changing.{inserted_at, collapsed_at, punched_at, length_inserted, length_collapsed, length_punched, length_reserved, reserved_at, holes_in}
@@ -110,10 +109,6 @@ granted_within c m w Tally bytes ok = w
 granted_within c m w (Map f) bytes ok = w
 granted_within c m w (Drop f) bytes ok = drop_within w f (leb-false _ _ ok.0)
 
-run_within : (c : Config) (m : Model) → Within c m → (qs : List Request) → Within c (run c m qs).after
-run_within c m w [] = w
-run_within c m w (q ∷ qs) = run_within c (step c m q.call q.buffer).next (step_both c m q.call q.buffer (λ o. Within c o.next) (λ why. w) (granted_within c m w q.call q.buffer)) qs
-
 -- every file of a new volume is empty
 no_places : (n f : ℕ) → get_or {A = List Place} (replicate n []) f [] ≡ []
 no_places n f = grind (arith, places)
@@ -130,4 +125,4 @@ fresh_within c = record {
 }
 
 pub limits_kept : LimitsKept
-limits_kept c qs = run_within c (fresh c.volume) (fresh_within c) qs
+limits_kept c qs = run_keeps c (Within c) (granted_within c) (fresh c.volume) (fresh_within c) qs

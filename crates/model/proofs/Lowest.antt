@@ -1,5 +1,5 @@
 -- The lowest run that fits.
-use Rattle.std.proofs.Common.{◌≡◌, ℕ, zero, suc, ◌+◌, ◌≤◌, Bool, true, eqb, List, [], ◌∷◌, sym, refl, subst, ⊎_elim, arith}
+use Rattle.std.proofs.Common.{◌≡◌, ℕ, zero, suc, ◌+◌, ◌≤◌, Bool, true, eqb, List, [], ◌∷◌, sym, refl, ⊎_elim, arith}
 use Rattle.std.proofs.lemmas.Bool.Decides.{nat_tests}
 use Rattle.std.proofs.lemmas.Bool.{eq-eqb, cond_both, cases_eq}
 use Rattle.model.specs.Space.{Blocks, Run, run_before, runs_from, most, lowest_fit}
@@ -38,6 +38,6 @@ pub fits_from : (free : Blocks) (n b s w : ℕ) → s ≤ b → b + suc n ≤ s 
 fits_from free n b s zero le fit all = absurd (omega arith)
 fits_from free n b s (suc w) le fit all =
     ⊎_elim
-    (λ (same : b ≡ s). subst (λ x. Fits (suc n) x (runs_from free s (suc w))) (sym same) (starts_fits s (suc n) (all_starts free n s (suc w) (omega arith) (subst (λ x. AllFree free x (suc n)) same all))))
+    (λ (same : b ≡ s). rw same (starts_fits s (suc n) (all_starts free n s (suc w) (omega arith) (rw same at all))))
     (λ other. fits_before (free s) s b (suc n) (runs_from free (suc s) w) le (fits_from free n b (suc s) w (omega arith) (omega arith) all))
     (cases_eq b s)

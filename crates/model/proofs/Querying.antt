@@ -1,12 +1,12 @@
 -- What find, length, tally and map answer.
-use Rattle.std.proofs.Common.{◌≡◌, ℕ, zero, suc, ◌+◌, ◌<◌, ◌≤◌, Bool, true, cond, List, [], ◌∷◌, length, drop, count_by, sym, refl, ◌∙◌, subst, ap₂, arith, length-drop}
+use Rattle.std.proofs.Common.{◌≡◌, ℕ, zero, suc, ◌+◌, ◌<◌, ◌≤◌, Bool, true, cond, List, [], ◌∷◌, length, drop, count_by, sym, refl, ◌∙◌, ap₂, arith, length-drop}
 use Rattle.std.proofs.lemmas.List.Sums.{sum_by-cons}
 use Rattle.std.proofs.lemmas.Bool.Decides.{nat_tests}
 use Rattle.std.proofs.lemmas.Bool.{lt-leb, cond_both}
 use Rattle.calls.specs.declared.call.Call.TheVariants.{Find, Tally}
 use Rattle.calls.specs.declared.answer.Answer.TheVariants.{Tallied}
 use Rattle.model.specs.Places.{Place}
-use Rattle.model.specs.Extents.{Extent, goes_on, before, extents, cut, leading_count}
+use Rattle.model.specs.Extents.{Extent, goes_on, extents, cut, leading_count}
 use Rattle.model.specs.Space.{Blocks, Run, run_before, runs_from, total, longest, row}
 use Rattle.model.specs.Store.{Config, Model, file_count, file, place, free_runs, spare}
 use Rattle.model.specs.Rules.{leaves, step}
@@ -44,14 +44,11 @@ leads : (p : Place) (ps : List Place) → Leads (p ∷ ps) (leading_count (exten
 leads p [] = record { some = omega arith; inside = omega arith; together = λ i pos lt. absurd (omega arith); ends = cut_past (p ∷ []) 0 (omega arith) }
 leads p (q ∷ qs) =
     let h = before_head q.kind q.block (extents qs) in
-    subst (λ es. Leads (p ∷ q ∷ qs) (leading_count (before p.kind p.block es))) (sym h.is)
-    (go h.first h.rest (ap₂ (goes_on p.kind p.block) h.kind h.block) (subst (λ es. Leads (q ∷ qs) (leading_count es)) h.is (leads q qs)))
-  where
-    go : (e : Extent) (es : List Extent) → goes_on p.kind p.block e.kind e.block ≡ goes_on p.kind p.block q.kind q.block → Leads (q ∷ qs) e.count → Leads (p ∷ q ∷ qs) (leading_count (before p.kind p.block (e ∷ es)))
-    go e es same ih =
-        cond_both (goes_on p.kind p.block e.kind e.block) _ _ (λ x. Leads (p ∷ q ∷ qs) (leading_count x))
-        (λ on. leads_more p q qs e.count (sym same ∙ on) ih)
-        (λ apart. record { some = omega arith; inside = omega arith; together = λ i pos lt. absurd (omega arith); ends = grind (arith, nat_tests) })
+    let ih : Leads (q ∷ qs) h.first.count = rw h.is at (leads q qs) in
+    let same = ap₂ (goes_on p.kind p.block) h.kind h.block in
+    rw h.is (cond_both (goes_on p.kind p.block h.first.kind h.first.block) _ _ (λ x. Leads (p ∷ q ∷ qs) (leading_count x))
+    (λ on. leads_more p q qs h.first.count (sym same ∙ on) ih)
+    (λ apart. record { some = omega arith; inside = omega arith; together = λ i pos lt. absurd (omega arith); ends = grind (arith, nat_tests, sym same ∙ apart) }))
 
 leads_some : (ps : List Place) → 0 < length ps → Leads ps (leading_count (extents ps))
 leads_some [] lt = absurd (omega arith)
@@ -90,8 +87,7 @@ tallies c m s buffer = record {
 
 maps : (c : Config) (m : Model) (f : ℕ) (buffer : List ℕ) → f < file_count → ((k : ℕ) → Tidy (place m f k)) → (es : List Extent) → spread es ≡ mappings (file m f) → Longest es → Maps c m f buffer es
 maps c m f buffer lt tidy es stand long =
-    subst (Maps c m f buffer) (extents_exact.only (file m f) es tidy stand long)
-    (λ fits. grind (arith, nat_tests))
+    rw (← extents_exact.only (file m f) es tidy stand long) (λ fits. grind (arith, nat_tests))
 
 pub queries_right : QueriesRight
 queries_right c qs f buffer lt =

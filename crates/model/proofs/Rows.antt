@@ -29,7 +29,7 @@ module _ (free : Blocks) (v : ℕ) (below : (b : ℕ) → v ≤ b → free b ≡
   under : (b : ℕ) → free b ≡ true → b < v
   under b e = grind (arith, below b)
 
-  pub fits_at : (n b : ℕ) → 0 < n → AllFree free b n → Fits n b (runs free v)
+  fits_at : (n b : ℕ) → 0 < n → AllFree free b n → Fits n b (runs free v)
   fits_at zero b pos all = absurd (omega arith)
   fits_at (suc n) b pos all = fits_from free n b 0 v (omega arith) (omega (arith, under (b + n) (all n (omega arith)))) all
 

@@ -5,6 +5,7 @@ use Rattle.calls.specs.declared.refusal.Refusal.{Refusal}
 use Rattle.calls.specs.Answers.{answer_number}
 use Rattle.calls.specs.Refusals.{refusal_number}
 use Rattle.model.specs.Store.{Config, Model}
+use Rattle.model.specs.Replay.{Request, run}
 use Rattle.model.specs.Rules.{Outcome, Reason, first, reasons, granted, settled, refuses, step}
 
 -- no reason holds
@@ -23,6 +24,11 @@ settled_both m buffer None g P refused done = done refl
 -- what holds of a refused call and of a granted one, for which no reason holds, holds of the call
 pub step_both : (c : Config) (m : Model) (call : Call) (buffer : List ℕ) (P : Outcome → Type 0) → ((w : Refusal) → P (refuses m buffer w)) → (Clear (reasons c m call buffer) → P (granted c m call buffer)) → P (step c m call buffer)
 step_both c m call buffer P refused done = settled_both m buffer (first (reasons c m call buffer)) (granted c m call buffer) P refused (λ none. done (clear (reasons c m call buffer) none))
+
+-- what each granted call keeps, a run of calls keeps
+pub run_keeps : (c : Config) (P : Model → Type 0) → ((m : Model) → P m → (call : Call) (buffer : List ℕ) → Clear (reasons c m call buffer) → P (granted c m call buffer).next) → (m : Model) → P m → (qs : List Request) → P (run c m qs).after
+run_keeps c P keeps m p [] = p
+run_keeps c P keeps m p (q ∷ qs) = run_keeps c P keeps (step c m q.call q.buffer).next (step_both c m q.call q.buffer (λ o. P o.next) (λ why. p) (keeps m p q.call q.buffer)) qs
 
 -- what is granted has number 0, and a refusal has not
 pub granted_zero : (c : Config) (m : Model) (call : Call) (buffer : List ℕ) → answer_number (granted c m call buffer).answer ≡ 0
