@@ -1,11 +1,12 @@
 -- The places of a changed list.
 use Rattle.std.proofs.Common.{◌≡◌, ℕ, zero, suc, ◌+◌, ◌-◌, ◌<◌, ◌≤◌, true, cond, ◌&&◌, ltb, leb, List, [], ◌∷◌, length, get_or, take, drop, refl, ap, arith}
-use Rattle.std.proofs.lemmas.Bool.Decides.{nat_tests}
 use Rattle.std.proofs.lemmas.List.{places}
+use Rattle.std.proofs.lemmas.Bool.Decides.{nat_tests}
 use Rattle.std.proofs.lemmas.Bool.{and_parts}
 use Rattle.calls.specs.declared.kind.Kind.TheVariants.{Hole, Reserved}
 use Rattle.model.specs.Places.{Place, hole, is_hole, all_holes, range, inserted, collapsed, punched, laid, reserved}
 
+-- an insert, a collapse and a punch: how many places there are, and each of them
 module _ (ps : List Place) (at n : ℕ) where
   pub length_inserted : at ≤ length ps → length (inserted ps at n) ≡ length ps + n
   length_inserted le = grind (arith, places)
@@ -40,6 +41,7 @@ laid_at (b ∷ bs) [] k = grind (arith, nat_tests)
 laid_at (b ∷ bs) (p ∷ ps) zero = grind (arith, nat_tests)
 laid_at (b ∷ bs) (p ∷ ps) (suc k) = grind (arith, nat_tests, laid_at bs ps k)
 
+-- a reserve, place by place
 module _ (ps : List Place) (at : ℕ) (bs : List ℕ) where
   pub length_reserved : at ≤ length ps → length (reserved ps at bs) ≡ length ps
   length_reserved le = grind (arith, places, length_laid bs (drop at ps))

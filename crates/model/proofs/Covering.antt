@@ -67,7 +67,7 @@ abbrev pub tally : (ℕ → ℕ) → ℕ → ℕ → ℕ
 tally g s zero = 0
 tally g s (suc n) = g s + tally g (suc s) n
 
--- a count that is a sum of two, over the blocks that pass a test
+-- numbers that are sums of two, summed over the blocks that pass a test
 pub tally_sum : (p : ℕ → Bool) (f g h : ℕ → ℕ) (s n : ℕ) → ((x : ℕ) → f x ≡ g x + h x) → tally (λ x. cond (p x) (f x) 0) s n ≡ tally (λ x. cond (p x) (g x) 0) s n + tally (λ x. cond (p x) (h x) 0) s n
 tally_sum p f g h s zero sum = refl
 tally_sum p f g h s (suc n) sum = grind (arith, sum s, tally_sum p f g h (suc s) n sum)
@@ -100,13 +100,14 @@ pub data Headed (s : ℕ) : List Run → List Run → Type 0 where
 headed_sub : {s : ℕ} {xs rs : List Run} → Headed s xs rs → Sub xs rs
 headed_sub (headed e q) = keep q
 
--- a selection from longer runs
+-- a selection from longer runs that takes the first
 record Grown (s : ℕ) (rs : List Run) (room : ℕ) (few : ℕ) : Type 0 where
   picked : List Run
   head : Headed s picked rs
   wide : room ≤ total picked
   short : length picked ≤ few
 
+-- a selection from longer runs that need not take the first
 record Passed (rs : List Run) (room : ℕ) (few : ℕ) : Type 0 where
   picked : List Run
   sub : Sub picked rs

@@ -2,6 +2,7 @@
 use Rattle.std.proofs.Common.{◌≡◌, ℕ, zero, suc, ◌+◌, ◌<◌, ◌≤◌, Bool, true, false, cond, not, ◌&&◌, eqb, List, [], ◌∷◌, length, sum_by, count_by, refl, arith}
 use Rattle.std.proofs.lemmas.List.Sums.{sum_by-cons}
 use Rattle.std.proofs.lemmas.Bool.{cond_both}
+use Rattle.std.proofs.lemmas.Bool.Decides.{nat_tests}
 use Rattle.calls.specs.declared.kind.Kind.{Kind}
 use Rattle.model.specs.Places.{Place, is_hole, on, held}
 use Rattle.model.specs.Extents.{Extent, goes_on, before, extents}
@@ -14,7 +15,6 @@ use Rattle.model.proofs.Basics.{one_if_le}
 use Rattle.model.proofs.Owners.{Sound, reached_sound, held_cons}
 use Rattle.model.proofs.Covering.{tally, tally_sum, tally_zero, tally_none}
 use Rattle.model.proofs.ExactExtents.{kinds_same}
-use Rattle.std.proofs.lemmas.Bool.Decides.{nat_tests}
 use Rattle.model.proofs.Entries.{before_head}
 use Rattle.model.proofs.Lowest.{Starts, starts, starts_one}
 

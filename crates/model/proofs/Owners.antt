@@ -86,9 +86,7 @@ module _ {v : ℕ} {m : Model} (s : Sound v m) (f : ℕ) (lt : f < file_count) w
   write_sound : (at : ℕ) (bytes : List ℕ) → at < length (file m f) → is_hole (place m f at).kind ≡ false → Sound v (write m f at bytes)
   write_sound at bytes lt' solid =
       let p : Place = record { kind = Written; block = (place m f at).block; bytes = bytes } in
-      kept (set (file m f) at p) m.free (λ b.
-      let same : one_if (on b p) ≡ one_if (on b (place m f at)) = rw solid in
-      omega (arith, sum_by-set (λ q. cond (on b q) 1 0) (file m f) at p hole lt', same))
+      kept (set (file m f) at p) m.free (λ b. grind (arith, sum_by-set (λ q. cond (on b q) 1 0) (file m f) at p hole))
 
 -- what a reserve takes is free, and none is taken twice
 pub free_of_runs : (free : Blocks) (v b : ℕ) → times (blocks_of (runs free v)) b ≤ one_if (free b)

@@ -1,5 +1,5 @@
 -- Rows of free blocks and the runs that they lie in.
-use Rattle.std.proofs.Common.{◌≡◌, ℕ, zero, suc, ◌+◌, ◌<◌, ◌≤◌, true, false, List, [], ◌∷◌, refl, ap, ◌∙◌, arith}
+use Rattle.std.proofs.Common.{◌≡◌, ℕ, zero, suc, ◌+◌, ◌<◌, ◌≤◌, false, List, [], ◌∷◌, refl, ap, ◌∙◌, arith}
 use Rattle.std.proofs.lemmas.List.{append-nil}
 use Rattle.std.proofs.lemmas.Bool.Decides.{nat_tests}
 use Rattle.model.specs.Space.{Blocks, times, Run, runs, most, longest, lowest_fit, whole, row, blocks_of}
@@ -26,12 +26,9 @@ longest_blocks (r ∷ rs) b = omega (arith, (parted r rs).blocks b)
 
 -- over a volume of v blocks
 module _ (free : Blocks) (v : ℕ) (below : (b : ℕ) → v ≤ b → free b ≡ false) where
-  under : (b : ℕ) → free b ≡ true → b < v
-  under b e = grind (arith, below b)
-
   fits_at : (n b : ℕ) → 0 < n → AllFree free b n → Fits n b (runs free v)
   fits_at zero b pos all = absurd (omega arith)
-  fits_at (suc n) b pos all = fits_from free n b 0 v (omega arith) (omega (arith, under (b + n) (all n (omega arith)))) all
+  fits_at (suc n) b pos all = fits_from free n b 0 v (omega arith) (grind (arith, below (b + n), all n)) all
 
   pub no_row : (n : ℕ) → most (runs free v) < n → (b : ℕ) → AllFree free b n → ⊥
   no_row n lt b all = omega (arith, (fits_at n b (omega arith) all).room)

@@ -1,6 +1,7 @@
 -- A call is refused for the first ground that holds, and granted where none does.
 use Rattle.std.proofs.Common.{◌≡◌, ℕ, zero, suc, ◌+◌, ◌-◌, ◌<◌, ◌≤◌, Bool, true, false, ◌&&◌, eqb, ltb, leb, ◌⊎◌, List, [], ◌∷◌, length, get_or, take, Some, None, refl, ap, ◌∙◌, ⊎_elim, arith}
 use Rattle.std.proofs.lemmas.Bool.{ltb-true, ltb-false, leb-true, eq-eqb, eqb-true, eqb-false, and_parts, not-true, cases_lt, cases_Bool, and_cases}
+use Rattle.std.proofs.lemmas.Bool.Decides.{nat_tests}
 use Rattle.calls.specs.declared.kind.Kind.TheVariants.{Hole}
 use Rattle.calls.specs.declared.call.Call.{Call}
 use Rattle.calls.specs.declared.call.Call.TheVariants.{Insert, Collapse, Punch, ReserveWhole, ReserveSplit, Write, Read, Find, Length, Tally, Map, Drop}
@@ -16,7 +17,6 @@ use Rattle.model.specs.Replay.{reached}
 use Rattle.model.specs.Pieces.{Choice, AllFree, pieces}
 use Rattle.model.specs.Grounds.{count_of, reach, Ground, no_file, no_count, out_of_file, too_long, write_buffer, read_buffer, map_buffer, whole_kind, split_kind, write_kind, no_space, no_run, too_many, insert_entries, collapse_entries, punch_entries, whole_entries, split_entries, write_entries, worn, Truthful, RefusalsTrue}
 use Rattle.model.proofs.Basics.{positive}
-use Rattle.std.proofs.lemmas.Bool.Decides.{nat_tests}
 use Rattle.model.proofs.Changing.{holes_in}
 use Rattle.model.proofs.Settled.{step_why, step_none, FirstHas, first_has}
 use Rattle.model.proofs.Owners.{Sound, reached_sound, free_below}
