@@ -1,5 +1,5 @@
 -- A split takes as it is ruled: the longest run, and then the rest from what is left.
-use Rattle.std.proofs.Common.{◌≡◌, ℕ, zero, suc, ◌+◌, ◌-◌, ◌<◌, ◌≤◌, false, ◌&&◌, eqb, leb, List, [], ◌∷◌, length, sym, ap, subst, arith}
+use Rattle.std.proofs.Common.{◌≡◌, ℕ, zero, suc, ◌+◌, ◌-◌, ◌<◌, ◌≤◌, false, leb, List, [], ◌∷◌, length, sym, subst, arith}
 use Rattle.std.proofs.lemmas.Bool.{leb-true, leb-false, cond_both}
 use Rattle.model.specs.Space.{Blocks, times, without, Run, runs, total, most, longest, others, split_up_to, row, blocks_of}
 use Rattle.model.specs.Ownership.{one_if}
@@ -40,7 +40,7 @@ split_taken v (suc k) n free below short pos fits =
     let parts = sizes rs short fits lt in
     let left = others_left free v in
     let later = split_up_to k (n - most rs) (others rs) in
-    let ih = split_taken v k (n - most rs) rest (λ b ge. ap (λ x. x && eqb (times (row l.start l.count) b) 0) (below b ge)) (rw left parts.0) (omega arith) (rw left parts.1) in
+    let ih = split_taken v k (n - most rs) rest (λ b ge. grind (arith, below b)) (rw left parts.0) (omega arith) (rw left parts.1) in
     more (no_row free v below n lt) (longest_row free v below)
     (subst (λ j. Taken rest (n - j) (length later) (blocks_of later)) (sym (longest_count rs)) (rw left at ih)))
   where
