@@ -72,6 +72,10 @@ some_solid (p ∷ ps) zero (suc n) e =
 some_solid (p ∷ ps) (suc at) (suc n) e =
     let s = some_solid ps at (suc n) e in record { at_place = suc s.at_place; from = omega (arith, s.from); below = omega (arith, s.below); solid = s.solid }
 
+-- a reason, and those behind it
+also : {A B C : Type 0} → A → (B → C) → A × (B → C)
+also here later = (here, later)
+
 self : (f : ℕ) → eqb f f ≡ true
 self f = eq-eqb f f refl
 
@@ -149,42 +153,26 @@ module _ (c : Config) (m : Model) (s : Sound c.volume m) where
   grounds (Collapse f at n) buffer = on_range (Collapse f at n) buffer f n (self f) refl (λ _. (λ h. collapse_entries (ltb-true _ _ h), λ _. tt))
   grounds (Punch f at n) buffer = on_range (Punch f at n) buffer f n (self f) refl (λ _. (λ h. punch_entries (ltb-true _ _ h), λ _. tt))
   grounds (ReserveWhole f at n) buffer =
-      on_range (ReserveWhole f at n) buffer f n (self f) refl (λ _. (
-        λ h. let p = some_solid (file m f) at n (not-true _ h) in whole_kind p.from p.below p.solid,
-        λ _. (
-          λ h. no_run (no_row m.free c.volume below n (ltb-true _ _ h)),
-          λ _.
-              (λ h. whole_entries (ltb-true _ _ h), λ _. tt),
-        ),
-      ))
+      on_range (ReserveWhole f at n) buffer f n (self f) refl (λ _.
+      also (λ h. let p = some_solid (file m f) at n (not-true _ h) in whole_kind p.from p.below p.solid) (λ _.
+      also (λ h. no_run (no_row m.free c.volume below n (ltb-true _ _ h))) (λ _.
+      (λ h. whole_entries (ltb-true _ _ h), λ _. tt))))
   grounds (ReserveSplit f at n) buffer =
       let rs = free_runs c m in
-      on_range (ReserveSplit f at n) buffer f n (self f) refl (λ pos. (
-        λ h. let p = some_solid (file m f) at n (not-true _ h) in split_kind p.from p.below p.solid,
-        λ _. (
-          λ h. no_space (λ bs ch. omega (arith, ltb-true _ _ h, has_room m.free c.volume below n bs ch)),
-          λ room.
-              let ch = split_choice m.free c.volume below n (ltb-false _ _ room) in
-              let least = split_least m.free c.volume below n pos in
-              let same = split_pieces n (blocks_of (split n rs)) pos ch in (
-                λ h. too_many ch (λ os och. omega (arith, ltb-true _ _ h, least os och)),
-                λ _.
-                    (λ h. split_entries ch (λ os och. omega (arith, same, least os och)) (omega (arith, same, ltb-true _ _ h)), λ _. tt),
-              ),
-        ),
-      ))
+      on_range (ReserveSplit f at n) buffer f n (self f) refl (λ pos.
+      also (λ h. let p = some_solid (file m f) at n (not-true _ h) in split_kind p.from p.below p.solid) (λ _.
+      also (λ h. no_space (λ bs ch. omega (arith, ltb-true _ _ h, has_room m.free c.volume below n bs ch))) (λ room.
+      let ch = split_choice m.free c.volume below n (ltb-false _ _ room) in
+      let least = split_least m.free c.volume below n pos in
+      let same = split_pieces n (blocks_of (split n rs)) pos ch in
+      also (λ h. too_many ch (λ os och. omega (arith, ltb-true _ _ h, least os och))) (λ _.
+      (λ h. split_entries ch (λ os och. omega (arith, same, least os och)) (omega (arith, same, ltb-true _ _ h)), λ _. tt)))))
   grounds (Write f at) buffer =
-      on_place (Write f at) buffer f at (self f) refl (
-        λ h. write_buffer (eqb-false _ _ (not-true _ h)),
-        λ _. (
-          λ h. write_kind (grind arith),
-          λ _. (
-            λ h. grind (arith, nat_tests, write_entries),
-            λ _.
-                (λ h. worn h, λ _. tt),
-          ),
-        ),
-      )
+      on_place (Write f at) buffer f at (self f) refl
+      (also (λ h. write_buffer (eqb-false _ _ (not-true _ h))) (λ _.
+      also (λ h. write_kind (grind arith)) (λ _.
+      also (λ h. grind (arith, nat_tests, write_entries)) (λ _.
+      (λ h. worn h, λ _. tt)))))
   grounds (Read f at) buffer = on_place (Read f at) buffer f at (self f) refl (λ h. read_buffer (eqb-false _ _ (not-true _ h)), λ _. tt)
   grounds (Find f at) buffer = on_place (Find f at) buffer f at (self f) refl tt
   grounds (Length f) buffer = (λ h. no_file f (self f) (leb-true _ _ h), λ _. tt)
