@@ -1,17 +1,15 @@
 -- A copy of some blocks, and one block more.
-use Rattle.std.proofs.Common.{◌≡◌, ℕ, ◌+◌, ◌-◌, ◌^◌, ◌<◌, ◌≤◌, Bool, false, List, [], length, get_or, drop, set, Ok, Err, Result, is_ok, true, MatchResult, IsErrAnd, IsErr, sym, refl, ap, ◌∙◌, ⊎_elim, arith, below_more}
+use Rattle.std.proofs.Common.{◌≡◌, ℕ, ◌+◌, ◌-◌, ◌^◌, ◌<◌, ◌≤◌, Bool, false, List, [], length, get_or, drop, set, Ok, Err, Result, is_ok, true, sym, refl, ap, ◌∙◌, ⊎_elim, arith, below_more}
 use lib.Seq.{paste}
 use Rattle.std.proofs.lemmas.List.Edits.{paste_none, length-paste, paste_more}
 use Rattle.std.proofs.lemmas.List.{get_or-drop, length-drop}
 use Rattle.std.proofs.lemmas.Bool.{cases_lt, cond-true, cond-false}
-use Rattle.card_copy.specs.declared.copy.CopyRange.{CopyRange}
-use Rattle.card_copy.specs.declared.copy.Stopped.{Stopped}
 use Rattle.card.specs.declared.fault.CardFault.{CardFault}
 use Rattle.card.specs.declared.fault.CardFault.TheVariants.{Worn}
 use Rattle.card_copy.specs.declared.copy.CopyFault.{CopyFault}
 use Rattle.card_copy.specs.declared.copy.CopyFault.TheVariants.{Write}
 use Rattle.card.specs.Faults.{checked}
-use Rattle.card_copy.specs.Copies.{in_turn, copy_checked, BlockCopied, Copied, RangeCopied}
+use Rattle.card_copy.specs.Copies.{in_turn, copy_checked, BlockCopied, Copied}
 use Rattle.card.proofs.Checks.{granted, worn_inside}
 
 only_ok : (r : Result (Unit {0}) CopyFault) → is_ok r ≡ true → r ≡ Ok tt
@@ -85,15 +83,8 @@ module _ (source target : List (List ℕ)) (worn : ℕ → Bool) where
         sym (same_check before marks done same (first + k) (start + k)) ∙ sym one.answer ∙ e,
       )
 
-  -- a copy that stops at this block says so
-  pub stopped :
-      (range : CopyRange) (k : ℕ) (before after : List (List ℕ)) (marks : ℕ → Bool) (r : Result (Unit {0}) CopyFault) (s : Result (Unit {0}) Stopped) → Copied source target worn range.first range.start k before → marks ≡ worn →
-      k < range.count → BlockCopied source before marks (range.first + k) (range.start + k) after r → MatchResult r (λ x. s ≡ Ok x) (λ e. IsErrAnd s (λ (t : Stopped). t ≡ record { copied = k; fault = e })) → IsErr s → RangeCopied source target worn range after s
-  stopped range k before after marks r (Ok x) done same h one says is = cc
-  stopped range k before after marks (Ok x) (Err t) done same h one says is = cc
-  stopped range k before after marks (Err fault) (Err t) done same h one says is =
-      let stop = copied_stop range.first range.start k before after marks (Err fault) done same one fault refl in
-      rw says (stop.0, h, stop.1)
-
   pub copied_none : (first start : ℕ) → Copied source target worn first start 0 target
   copied_none first start = record { passed = λ j h. absurd (omega arith); contents = paste_none target start (drop first source) }
+
+-- the steps of a copy
+pub ruleset steps = (sums_fit, copied_stop, copied_none)

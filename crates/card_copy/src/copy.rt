@@ -69,12 +69,13 @@ pub fn copy_block<S: ReadCard, D: Card>(
 }
 
 // Copies a range of blocks, in order, up to the first refusal.
+#[tactic(auto, using(crate::proofs::Copying::steps))]
 pub fn copy<S: ReadCard, D: Card>(from: &S, to: &mut D, range: CopyRange) -> Result<(), Stopped>
     ensures copied { RangeCopied (S.contents from.now) (D.contents to.old) (D.worn (D.kept to.old))
         range (D.contents to.new) result }
     ensures kept { D.kept to.new ≡ D.kept to.old }
 {
-    // a loop, since the card changes: of a closure that changes what it captures a proof knows nothing
+    // `try_for_each` was tried: of the card between its calls a proof knows nothing, so not even that these sums fit
     for copied in 0..range.count {
         copy_block(from, range.first + copied, to, range.start + copied).map_err(|fault| Stopped {
             copied,

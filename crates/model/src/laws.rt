@@ -1,5 +1,5 @@
 // What is shown of the rules: the contract of each function is a theorem, for every volume and every list of calls. The functions themselves do nothing.
-// One for each law, so that each is proved, and can fail, alone. Where a law names no lemma here, its proof is in proofs/laws.
+// One for each law, so that each is proved, and can fail, alone. Where a law names no lemma here, its proof is a file of proofs/laws: by `using` the check does not find it.
 ghost use Rattle.model.specs.Exact.{ExtentsExact, RunsExact};
 ghost use Rattle.model.specs.Examples.{Examples};
 ghost use Rattle.model.specs.Frames.{OthersStay, RefusalsLeave};

@@ -7,6 +7,7 @@ use card_copy::compare::same_block;
 use card_copy::copy::{CopyFault, CopyRange, copy};
 
 // Copies the recording to the card in order, past each worn block, until all of it is there or another refusal ends it.
+#[tactic(auto, using(card_copy::proofs::Copying::worn_within))]
 pub(crate) fn transfer<S: ReadCard, D: Card>(
     rt: &impl Print,
     recording: &S,
