@@ -28,7 +28,7 @@ impl CardFault {
     }
 }
 
-// The first check that fails for a call on block `b` with a buffer of `len` bytes.
+// The first check that fails for a call on block `b` with a buffer of `len` bytes. A read is checked as a write to a block that is not worn.
 pub fn check(count: u32, worn: bool, b: u32, len: usize) -> Result<(), CardFault>
     ensures { result ≡ checked count worn b len }
 {

@@ -4,7 +4,7 @@ ghost use Rattle.card_copy.specs.Compares.{Compared};
 use card::ReadCard;
 use card::fault::{BLOCK_SIZE, CardFault};
 
-// Whether block `b` of a card holds the same bytes as block `d` of another.
+// Whether block `b` of a card holds the same bytes as block `d` of another (four arguments, as in `copy_block`).
 pub fn same_block<P: ReadCard, Q: ReadCard>(
     one: &P,
     b: u32,

@@ -53,6 +53,7 @@ pub struct Stopped {
 }
 
 // Copies block `b` of a card to block `d` of another, or leaves the other as it was.
+// Cards and numbers are arguments: a struct of both would have to lend its card anew for each block.
 pub fn copy_block<S: ReadCard, D: Card>(
     from: &S,
     b: u32,
@@ -61,6 +62,7 @@ pub fn copy_block<S: ReadCard, D: Card>(
 ) -> Result<(), CopyFault>
     ensures copied { BlockCopied (S.contents from.now) (D.contents to.old) (D.worn (D.kept to.old)) b d
         (D.contents to.new) result }
+    // passed on from `write`
     ensures kept { D.kept to.new ≡ D.kept to.old }
 {
     let mut buffer = [0u8; BLOCK_SIZE];
@@ -73,6 +75,7 @@ pub fn copy_block<S: ReadCard, D: Card>(
 pub fn copy<S: ReadCard, D: Card>(from: &S, to: &mut D, range: CopyRange) -> Result<(), Stopped>
     ensures copied { RangeCopied (S.contents from.now) (D.contents to.old) (D.worn (D.kept to.old))
         range (D.contents to.new) result }
+    // passed on from `write`
     ensures kept { D.kept to.new ≡ D.kept to.old }
 {
     // `try_for_each` was tried: of the card between its calls a proof knows nothing, so not even that these sums fit

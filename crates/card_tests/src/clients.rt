@@ -1,5 +1,5 @@
 // Work on memory through cards: who lends the memory learns what it then holds.
-// That the rest of a memory is as before is a clause of each, since it is said of the memory before and after, and no type holds that.
+// So each takes the memory and its worn list, and no card of both, and says that the rest of the memory is as before: that is of two states, and no type holds it.
 ghost use Rattle.std.specs.Prelude.{◌≡◌, [], length};
 ghost use Rattle.memory_card.specs.Blocks.{blocks_of, rest_of};
 ghost use Rattle.card.specs.Cards.{Written};

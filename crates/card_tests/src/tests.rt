@@ -21,14 +21,14 @@ enum Call {
     Write(u32, usize, u8),
 }
 
-// What a read answers, and the first byte of its buffer, which was 99. No row of a table asks for more than 600 bytes.
+// What a read answers, and the first byte of its buffer, which was 99. The buffer has 600 bytes, more than any row asks for, since there is no heap here.
 fn read<C: ReadCard>(card: &C, b: u32, len: usize) -> (Result<(), CardFault>, u8) {
     let mut buffer = [99u8; 600];
     let answer = card.read(b, &mut buffer[..len.min(600)]);
     (answer, buffer[0])
 }
 
-// The same of any call: after a write, the byte written.
+// The same of any call, with a buffer of as many: after a write, the byte written.
 fn perform<C: Card>(card: &mut C, call: Call) -> (Result<(), CardFault>, u8) {
     match call {
         Call::Read(b, len) => read(&*card, b, len),

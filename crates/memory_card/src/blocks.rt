@@ -1,6 +1,6 @@
 // A memory as blocks: the calls that every card over memory shares.
 // A block is a range of bytes, and no element of `as_chunks`: of `as_chunks_mut` no contract says what the memory then holds, and
-// a read is written as a write is.
+// a read that says "block" in another way than the write beside it would be no plainer.
 ghost use Rattle.std.specs.Prelude.{◌≡◌, length};
 ghost use Rattle.memory_card.specs.Blocks.{blocks_of, rest_of};
 ghost use Rattle.card.specs.Cards.{Read, Written};
@@ -33,6 +33,7 @@ pub(crate) fn write_block(
     buffer: &[u8],
 ) -> Result<(), CardFault>
     ensures written { Written (blocks_of memory.old) worn b buffer.now (blocks_of memory.new) result }
+    // of the memory before and after, so no type can hold it
     ensures rest { rest_of memory.new ≡ rest_of memory.old }
 {
     check(count_blocks(memory), worn, b, buffer.len())?;

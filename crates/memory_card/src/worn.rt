@@ -9,7 +9,7 @@ use std::marker::Model;
 // the most worn blocks that a list has
 pub const MOST_WORN: usize = 16;
 
-// More numbers were given than a list has.
+// More numbers were given than a list has. Its text is by hand, since the libraries here stand on std alone.
 #[derive(Clone, Copy, Debug, PartialEq, Eq)]
 pub struct TooManyWorn;
 
@@ -22,7 +22,7 @@ impl fmt::Display for TooManyWorn {
 impl Error for TooManyWorn {}
 
 // Up to 16 numbers of worn blocks. They are given when the list is made, and never change.
-// An array with its count, and no `ArrayVec`, which is not `Copy`: a list may be given to several cards.
+// An array with its count: a card has no heap, and an `ArrayVec` is not `Copy`, where one list may be given to several cards.
 #[derive(Clone, Copy, Debug, PartialEq, Eq)]
 pub struct WornList {
     numbers: [u32; MOST_WORN],
@@ -47,7 +47,8 @@ impl Model for WornList {
 impl WornList {
     // The list of these numbers, unless they are more than 16.
     pub fn new(numbers: &[u32]) -> Result<WornList, TooManyWorn>
-        ensures { MatchResult result (λ w. (length numbers.now ≤ 16) × (w ≡ numbers.now)) (λ _. 16 < length numbers.now) }
+        ensures { MatchResult result (λ w. (length numbers.now ≤ 16) × (w ≡ numbers.now))
+            (λ _. 16 < length numbers.now) }
     {
         let count = numbers.len();
         if count > MOST_WORN {

@@ -81,7 +81,7 @@ impl<P: Card, Q: Card> Card for PairCard<P, Q> {
 
     ghost worn = { λ kept. both_worn kept.count (P.worn kept.first) (Q.worn kept.second) };
 
-    // the choice of `read` again, for a card that is changed
+    // the choice of `read` again: one place for both would have to hand a card out, as `&` to the one and as `&mut` to the other
     #[tactic(auto, using(crate::proofs::Pairing::writes))]
     fn write(&mut self, b: u32, buffer: &[u8]) -> Result<(), CardFault> {
         match self.locate(b)? {

@@ -26,32 +26,30 @@ fn run(rt: &impl Print, heap: Global) -> anyhow::Result<()> {
     let mut first = MemoryCard::new(&mut one, WornList::new(&[3])?);
     let mut second = MemoryCard::new(&mut two, WornList::new(&[0, 1])?);
     let mut card = PairCard::new(&mut first, &mut second);
-    move_to_card(rt, &ReadOnlyCard::new(&bytes), &mut card, Tally::new(heap))
+    move_to_card(&ReadOnlyCard::new(&bytes), &mut card, Tally::new(rt, heap))
 }
 
 // Copies the recording to the card, asks the card for what it must refuse, and reads the recording back.
-fn move_to_card<S: ReadCard, D: Card>(
-    rt: &impl Print,
+fn move_to_card<S: ReadCard, D: Card, R: Print>(
     recording: &S,
     card: &mut D,
-    mut tally: Tally,
+    mut tally: Tally<R>,
 ) -> anyhow::Result<()> {
-    println!(rt;
+    println!(tally.rt;
         "recording: {} blocks in read-only memory",
         recording.count()
     )?;
-    println!(rt;
+    println!(tally.rt;
         "card: {} blocks in two memories, some of them worn",
         card.count()
     )?;
-    transfer(rt, recording, card, &mut tally)?;
-    probe(rt, card, &mut tally)?;
-    let verified = verify(recording, &*card, &tally);
-    println!(rt;
+    transfer(recording, card, &mut tally)?;
+    probe(card, &mut tally)?;
+    println!(tally.rt;
         "copied {}, refused {}, verified {}",
         tally.copied(),
         tally.refused,
-        verified
+        verify(recording, &*card, tally.ranges.as_slice())
     )?;
     Ok(())
 }

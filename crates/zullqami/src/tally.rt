@@ -39,16 +39,18 @@ impl<'a> fmt::Display for Refused<'a> {
     }
 }
 
-// The stretches copied, and how many refusals there were.
+// The stretches copied, how many refusals there were, and where both are printed.
 #[derive(Drop)]
-pub(crate) struct Tally {
+pub(crate) struct Tally<'a, R> {
+    pub rt: &'a R,
     pub ranges: Vec<CopyRange>,
     pub refused: u32,
 }
 
-impl Tally {
-    pub(crate) fn new(heap: Global) -> Tally {
+impl<'a, R: Print> Tally<'a, R> {
+    pub(crate) fn new(rt: &'a R, heap: Global) -> Tally<'a, R> {
         Tally {
+            rt,
             ranges: Vec::new(heap),
             refused: 0,
         }
@@ -62,18 +64,18 @@ impl Tally {
     }
 
     // Notes and prints a stretch that was copied, unless it is empty.
-    pub(crate) fn note_copied(&mut self, rt: &impl Print, range: CopyRange) -> anyhow::Result<()> {
+    pub(crate) fn note_copied(&mut self, range: CopyRange) -> anyhow::Result<()> {
         if range.count == 0 {
             return Ok(());
         }
-        println!(rt; "{}", Shown(range))?;
+        println!(self.rt; "{}", Shown(range))?;
         self.ranges.push(range)?;
         Ok(())
     }
 
     // Counts and prints a refusal.
-    pub(crate) fn note_refused(&mut self, rt: &impl Print, refused: Refused) -> anyhow::Result<()> {
-        println!(rt; "{refused}")?;
+    pub(crate) fn note_refused(&mut self, refused: Refused) -> anyhow::Result<()> {
+        println!(self.rt; "{refused}")?;
         self.refused = self.refused.saturating_add(1);
         Ok(())
     }
