@@ -11,6 +11,7 @@ use memory_card::memory::MemoryCard;
 use memory_card::read_only::ReadOnlyCard;
 use memory_card::worn::{TooManyWorn, WornList};
 use pair_card::PairCard;
+use std::alloc::AllocError;
 use std::process::Abort;
 
 // A call on a card, by its block and the length of its buffer. A write's buffer is full of one byte.
@@ -122,6 +123,13 @@ fn sixteen_blocks_may_be_worn(rt: HostRuntime) -> Result<(), TooManyWorn> {
     let list = WornList::new(&numbers[..16])?;
     assert!(rt; list.contains(0) && list.contains(14) && list.contains(99) && !list.contains(15));
     assert!(rt; !WornList::none().contains(0));
+    Ok(())
+}
+
+#[test]
+fn too_many_worn_blocks_are_named(rt: HostRuntime) -> Result<(), AllocError> {
+    let text = format!(in rt.alloc(); "{TooManyWorn}")?;
+    assert!(rt; text.as_str() == "more than 16 worn blocks");
     Ok(())
 }
 
