@@ -1,5 +1,5 @@
 // The worn blocks of a memory card.
-ghost use Rattle.std.specs.Prelude.{◌≡◌, ◌<◌, ◌≤◌, [], length, MatchResult};
+ghost use Rattle.std.specs.Prelude.{◌≡◌, ◌<◌, ◌≤◌, [], length, MatchResult, Some, codes};
 ghost use Rattle.memory_card.specs.Worn.{marked};
 
 use std::error::Error;
@@ -14,8 +14,10 @@ pub const MOST_WORN: usize = 16;
 pub struct TooManyWorn;
 
 impl fmt::Display for TooManyWorn {
+    ghost output = { λ _. Some (codes "more than 16 worn blocks") };
+
     fn fmt<W: fmt::Write>(&self, f: &mut fmt::Formatter<W>) -> fmt::Result {
-        write!(f, "more than {MOST_WORN} worn blocks")
+        write!(f, "more than 16 worn blocks")
     }
 }
 

@@ -26,7 +26,7 @@ module _ (ps : List Place) (at n : ℕ) where
   pub punched_at : (k : ℕ) → at + n ≤ length ps → get_or (punched ps at n) k hole ≡ cond (leb at k && ltb k (at + n)) hole (get_or ps k hole)
   punched_at k le = grind (arith, places, nat_tests)
 
-length_laid : (bs : List ℕ) (ps : List Place) → length (laid bs ps) ≡ length ps
+pub length_laid : (bs : List ℕ) (ps : List Place) → length (laid bs ps) ≡ length ps
 length_laid [] ps = refl
 length_laid (b ∷ bs) [] = refl
 length_laid (b ∷ bs) (p ∷ ps) = ap suc (length_laid bs ps)

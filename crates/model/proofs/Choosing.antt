@@ -12,7 +12,7 @@ times_cons x xs b = sum_by-cons (λ y. cond (eqb y b) 1 0) x xs
 pub times_append : (xs ys : List ℕ) (b : ℕ) → times (xs ++ ys) b ≡ times xs b + times ys b
 times_append xs ys b = sum_by-append (λ y. cond (eqb y b) 1 0) xs ys
 
-length_row : (b n : ℕ) → length (row b n) ≡ n
+pub length_row : (b n : ℕ) → length (row b n) ≡ n
 length_row b zero = refl
 length_row b (suc n) = ap suc (length_row (suc b) n)
 
@@ -63,7 +63,7 @@ pub fit_count : (n : ℕ) (rs : List Run) → n ≤ most rs → (lowest_fit n rs
 fit_count n [] le = omega arith
 fit_count n (r ∷ rs) le = grind (arith, nat_tests, fit_count n rs)
 
-times_row_le : (s n k b : ℕ) → n ≤ k → times (row s n) b ≤ times (row s k) b
+pub times_row_le : (s n k b : ℕ) → n ≤ k → times (row s n) b ≤ times (row s k) b
 times_row_le s zero k b le = omega arith
 times_row_le s (suc n) zero b le = absurd (omega arith)
 times_row_le s (suc n) (suc k) b le = omega (arith, times_cons s (row (suc s) n) b, times_cons s (row (suc s) k) b, times_row_le (suc s) n k b (omega arith))
@@ -96,7 +96,7 @@ split_blocks (suc k) n (r ∷ rs) b =
     (λ _. omega (arith, times_append (row l.start l.count) (blocks_of rest) b, (parted r rs).blocks b, split_blocks k (n - most (r ∷ rs)) (others (r ∷ rs)) b))
 
 -- the blocks of the runs are the free blocks, each once
-blocks_before : (s : ℕ) (rs : List Run) → blocks_of (run_before true s rs) ≡ s ∷ blocks_of rs
+pub blocks_before : (s : ℕ) (rs : List Run) → blocks_of (run_before true s rs) ≡ s ∷ blocks_of rs
 blocks_before s [] = refl
 blocks_before s (r ∷ rs) = grind (arith, nat_tests)
 

@@ -16,7 +16,7 @@ pub data Sub : List Run → List Run → Type 0 where
   skip : {r : Run} {xs rs : List Run} → Sub xs rs → Sub xs (r ∷ rs)
   keep : {r : Run} {xs rs : List Run} → Sub xs rs → Sub (r ∷ xs) (r ∷ rs)
 
-sub_none : (rs : List Run) → Sub [] rs
+pub sub_none : (rs : List Run) → Sub [] rs
 sub_none [] = none
 sub_none (r ∷ rs) = skip (sub_none rs)
 
@@ -80,12 +80,12 @@ pub tally_none : (p : ℕ → Bool) (b s n : ℕ) → b < s → tally (λ x. con
 tally_none p b s zero lt = refl
 tally_none p b s (suc n) lt = grind (arith, nat_tests, tally_none p b (suc s) n)
 
-tally_one : (p : ℕ → Bool) (b s n : ℕ) → s ≤ b → b < s + n → tally (λ x. cond (p x) (one_if (eqb b x)) 0) s n ≡ one_if (p b)
+pub tally_one : (p : ℕ → Bool) (b s n : ℕ) → s ≤ b → b < s + n → tally (λ x. cond (p x) (one_if (eqb b x)) 0) s n ≡ one_if (p b)
 tally_one p b s zero le lt = absurd (omega arith)
 tally_one p b s (suc n) le lt = grind (arith, nat_tests, tally_none p b (suc s) n, tally_one p b (suc s) n)
 
 -- counting over a list of blocks below v is counting over the blocks
-over_blocks : (p : ℕ → Bool) (v : ℕ) (bs : List ℕ) → ((b : ℕ) → v ≤ b → times bs b ≡ 0) → count_by p bs ≡ tally (λ x. cond (p x) (times bs x) 0) 0 v
+pub over_blocks : (p : ℕ → Bool) (v : ℕ) (bs : List ℕ) → ((b : ℕ) → v ≤ b → times bs b ≡ 0) → count_by p bs ≡ tally (λ x. cond (p x) (times bs x) 0) 0 v
 over_blocks p v [] below = sym (tally_zero p 0 v)
 over_blocks p v (b ∷ bs) below =
     let under : b < v = grind (arith, nat_tests, below b, times_cons b bs b) in
@@ -193,7 +193,7 @@ module _ (free : Blocks) (bs : List ℕ) (apart : (b : ℕ) → times bs b ≤ o
       go (suc n) old (suc t) te (suc u) ue =
           grown (suc n) _ _ (grow_head s (old.head (omega arith) (omega arith))) (omega arith) (omega (arith, old.wide)) (omega (arith, old.short, continues_le bs (suc s), apart (suc s), one_if_le (free (suc s))))
 
-  cover : (s n : ℕ) → Cover free bs s n (runs_from free s n)
+  pub cover : (s n : ℕ) → Cover free bs s n (runs_from free s n)
   cover s zero = record { picked = []; sub = none; wide = omega arith; short = omega arith; head = λ lt _. absurd (omega arith) }
   cover s (suc n) = cover_more s n (free s) refl (cover (suc s) n)
 

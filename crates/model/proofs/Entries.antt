@@ -35,11 +35,11 @@ before_head k b (e ∷ es) =
 before_length : (k : Kind) (b : ℕ) (e : Extent) (es : List Extent) → length (before k b (e ∷ es)) + one_if (goes_on k b e.kind e.block) ≡ suc (suc (length es))
 before_length k b e es = grind (arith, nat_tests)
 
-ext_cons : (p : Place) (ps : List Place) → ext (p ∷ ps) + link p ps ≡ suc (ext ps)
+pub ext_cons : (p : Place) (ps : List Place) → ext (p ∷ ps) + link p ps ≡ suc (ext ps)
 ext_cons p [] = refl
 ext_cons p (q ∷ qs) = let h = before_head q.kind q.block (extents qs) in rw h.is (grind (arith, before_length p.kind p.block h.first h.rest, h))
 
-ext_some : (ps : List Place) → 0 < length ps → 1 ≤ ext ps
+pub ext_some : (ps : List Place) → 0 < length ps → 1 ≤ ext ps
 ext_some [] lt = absurd (omega arith)
 ext_some (p ∷ ps) lt = let h = before_head p.kind p.block (extents ps) in omega (arith, ap length h.is)
 
@@ -54,7 +54,7 @@ ext_append [] ys = omega arith
 ext_append (x ∷ []) ys = omega (arith, ext_cons x ys)
 ext_append (x ∷ z ∷ xs) ys = omega (arith, ext_append (z ∷ xs) ys, ext_cons x (z ∷ xs ++ ys), ext_cons x (z ∷ xs))
 
-ext_append_le : (xs ys : List Place) → ext (xs ++ ys) ≤ ext xs + ext ys
+pub ext_append_le : (xs ys : List Place) → ext (xs ++ ys) ≤ ext xs + ext ys
 ext_append_le xs ys = omega (arith, ext_append xs ys)
 
 -- cut is that
@@ -83,7 +83,7 @@ cut_drop ps at (suc i) pos = rw (let e : at + suc i ≡ suc (at + i) = omega ari
 pub cut_once : (ps : List Place) (at : ℕ) → ext (take at ps) + ext (drop at ps) ≡ ext ps + cut ps at
 cut_once ps at = grind (arith, ext_append (take at ps) (drop at ps), take-append-drop at ps, cut_join ps at)
 
-cut_twice : (ps : List Place) (at n : ℕ) → 0 < n → ext (take at ps) + (ext (range ps at n) + ext (drop n (drop at ps))) ≡ ext ps + (cut ps at + cut ps (at + n))
+pub cut_twice : (ps : List Place) (at n : ℕ) → 0 < n → ext (take at ps) + (ext (range ps at n) + ext (drop n (drop at ps))) ≡ ext ps + (cut ps at + cut ps (at + n))
 cut_twice ps at n pos = omega (arith, cut_once ps at, cut_once (drop at ps) n, cut_drop ps at n pos)
 
 ext_holes : (n : ℕ) → ext (replicate n hole) ≤ 1
@@ -100,7 +100,7 @@ laid_row s (suc (suc l)) cs (p ∷ []) = omega (arith, ext_cons (record { kind =
 laid_row s (suc (suc l)) cs (p ∷ q ∷ ps) =
     grind (arith, nat_tests, laid_row (suc s) (suc l) cs (q ∷ ps), ext_cons (record { kind = Reserved; block = s; bytes = p.bytes }) (laid (row (suc s) (suc l) ++ cs) (q ∷ ps)))
 
-laid_runs : (qs : List Run) (ps : List Place) → ext (laid (blocks_of qs) ps) ≤ length qs + ext (drop (total qs) ps)
+pub laid_runs : (qs : List Run) (ps : List Place) → ext (laid (blocks_of qs) ps) ≤ length qs + ext (drop (total qs) ps)
 laid_runs [] ps = omega arith
 laid_runs (q ∷ qs) ps = grind (arith, laid_row q.start q.count (blocks_of qs) ps, laid_runs qs (drop q.count ps), drop-drop (total qs) q.count ps)
 

@@ -21,14 +21,14 @@ use Rattle.model.proofs.Choosing.{times_cons, times_append, length_blocks, fit_c
 pub held_cons : (p : Place) (ps : List Place) (b : ℕ) → held (p ∷ ps) b ≡ one_if (on b p) + held ps b
 held_cons p ps b = sum_by-cons (λ q. cond (on b q) 1 0) p ps
 
-held_append : (xs ys : List Place) (b : ℕ) → held (xs ++ ys) b ≡ held xs b + held ys b
+pub held_append : (xs ys : List Place) (b : ℕ) → held (xs ++ ys) b ≡ held xs b + held ys b
 held_append xs ys b = sum_by-append (λ q. cond (on b q) 1 0) xs ys
 
-held_holes : (n b : ℕ) → held (replicate n hole) b ≡ 0
+pub held_holes : (n b : ℕ) → held (replicate n hole) b ≡ 0
 held_holes zero b = refl
 held_holes (suc n) b = omega (arith, held_cons hole (replicate n hole) b, held_holes n b)
 
-held_cut : (at : ℕ) (ps : List Place) (b : ℕ) → held (take at ps) b + held (drop at ps) b ≡ held ps b
+pub held_cut : (at : ℕ) (ps : List Place) (b : ℕ) → held (take at ps) b + held (drop at ps) b ≡ held ps b
 held_cut at ps b = sum_by-take-drop (λ q. cond (on b q) 1 0) ps at
 
 -- the sets of free blocks
@@ -36,7 +36,7 @@ freed_one : (x : Bool) (h : ℕ) → h + one_if x ≤ 1 → one_if (x || ltb 0 h
 freed_one x h le = grind (arith, nat_tests)
 
 -- laid blocks
-held_laid : (bs : List ℕ) (ps : List Place) (b : ℕ) → length bs ≤ length ps → all_holes (take (length bs) ps) ≡ true → held (laid bs ps) b ≡ times bs b + held ps b
+pub held_laid : (bs : List ℕ) (ps : List Place) (b : ℕ) → length bs ≤ length ps → all_holes (take (length bs) ps) ≡ true → held (laid bs ps) b ≡ times bs b + held ps b
 held_laid [] ps b le e = omega arith
 held_laid (x ∷ bs) [] b le e = absurd (omega arith)
 held_laid (x ∷ bs) (p ∷ ps) b le e = grind (arith, held_cons (record { kind = Reserved; block = x; bytes = p.bytes }) (laid bs ps) b, held_cons p ps b, held_laid bs ps b, times_cons x bs b)
@@ -50,7 +50,7 @@ module _ {v : ℕ} {m : Model} (s : Sound v m) (f : ℕ) (lt : f < file_count) w
   inside : f < length m.files
   inside = omega (arith, s.sized)
 
-  held_le : (b : ℕ) → held (file m f) b + one_if (m.free b) ≤ 1
+  pub held_le : (b : ℕ) → held (file m f) b + one_if (m.free b) ≤ 1
   held_le b = omega (arith, s.owned b, get_or-le-sum_by (λ ps. held ps b) m.files f [] inside, one_if_le (ltb b v))
 
   -- a file and the free blocks change together, and every block stands as often as before
@@ -64,26 +64,26 @@ module _ {v : ℕ} {m : Model} (s : Sound v m) (f : ℕ) (lt : f < file_count) w
   parts : (at n b : ℕ) → held (take at (file m f)) b + (held (range (file m f) at n) b + held (drop n (drop at (file m f))) b) ≡ held (file m f) b
   parts at n b = omega (arith, held_cut at (file m f) b, held_cut n (drop at (file m f)) b)
 
-  insert_sound : (at n : ℕ) → Sound v (insert m f at n)
+  pub insert_sound : (at n : ℕ) → Sound v (insert m f at n)
   insert_sound at n = kept (inserted (file m f) at n) m.free (λ b. omega (arith, held_append, held_holes, held_cut at (file m f) b))
 
   freed_parts : (at n b : ℕ) → one_if (freed m.free (range (file m f) at n) b) ≡ one_if (m.free b) + held (range (file m f) at n) b
   freed_parts at n b = freed_one (m.free b) (held (range (file m f) at n) b) (omega (arith, parts at n b, held_le b))
 
-  collapse_sound : (at n : ℕ) → Sound v (collapse m f at n)
+  pub collapse_sound : (at n : ℕ) → Sound v (collapse m f at n)
   collapse_sound at n = kept (collapsed (file m f) at n) (freed m.free (range (file m f) at n)) (λ b. omega (arith, held_append, parts at n b, freed_parts at n b))
 
-  punch_sound : (at n : ℕ) → Sound v (punch m f at n)
+  pub punch_sound : (at n : ℕ) → Sound v (punch m f at n)
   punch_sound at n = kept (punched (file m f) at n) (freed m.free (range (file m f) at n)) (λ b. omega (arith, held_append, held_holes, parts at n b, freed_parts at n b))
 
-  empty_sound : Sound v (empty m f)
+  pub empty_sound : Sound v (empty m f)
   empty_sound = kept [] (freed m.free (file m f)) (λ b. omega (arith, freed_one (m.free b) (held (file m f) b) (held_le b)))
 
-  reserve_sound : (at n : ℕ) (bs : List ℕ) → length bs ≡ n → at + n ≤ length (file m f) → all_holes (range (file m f) at n) ≡ true → ((b : ℕ) → times bs b ≤ one_if (m.free b)) → Sound v (reserve m f at bs)
+  pub reserve_sound : (at n : ℕ) (bs : List ℕ) → length bs ≡ n → at + n ≤ length (file m f) → all_holes (range (file m f) at n) ≡ true → ((b : ℕ) → times bs b ≤ one_if (m.free b)) → Sound v (reserve m f at bs)
   reserve_sound at n bs long fits holes free = kept (reserved (file m f) at bs) (without m.free bs) (λ b.
       omega (arith, held_append, held_cut at (file m f) b, without_one (m.free b) (times bs b) (free b), held_laid bs (drop at (file m f)) b (omega (arith, length-drop at (file m f))) (rw long holes)))
 
-  write_sound : (at : ℕ) (bytes : List ℕ) → at < length (file m f) → is_hole (place m f at).kind ≡ false → Sound v (write m f at bytes)
+  pub write_sound : (at : ℕ) (bytes : List ℕ) → at < length (file m f) → is_hole (place m f at).kind ≡ false → Sound v (write m f at bytes)
   write_sound at bytes lt' solid =
       let p : Place = record { kind = Written; block = (place m f at).block; bytes = bytes } in
       kept (set (file m f) at p) m.free (λ b. grind (arith, sum_by-set (λ q. cond (on b q) 1 0) (file m f) at p hole))
@@ -107,7 +107,7 @@ pub split_long : (rs : List Run) (n : ℕ) → n ≤ total rs → length (blocks
 split_long rs n le = length_blocks (split n rs) ∙ split_total (length rs) n rs (omega arith) le
 
 -- each granted call
-granted_sound : (c : Config) (m : Model) → Sound c.volume m → (call : Call) (bytes : List ℕ) → Clear (reasons c m call bytes) → Sound c.volume (granted c m call bytes).next
+pub granted_sound : (c : Config) (m : Model) → Sound c.volume m → (call : Call) (bytes : List ℕ) → Clear (reasons c m call bytes) → Sound c.volume (granted c m call bytes).next
 granted_sound c m s (Insert f at n) bytes ok = insert_sound s f (leb-false _ _ ok.0) at n
 granted_sound c m s (Collapse f at n) bytes ok = collapse_sound s f (leb-false _ _ ok.0) at n
 granted_sound c m s (Punch f at n) bytes ok = punch_sound s f (leb-false _ _ ok.0) at n
@@ -125,7 +125,7 @@ granted_sound c m s Tally bytes ok = s
 granted_sound c m s (Map f) bytes ok = s
 granted_sound c m s (Drop f) bytes ok = empty_sound s f (leb-false _ _ ok.0)
 
-fresh_sound : (v : ℕ) → Sound v (fresh v)
+pub fresh_sound : (v : ℕ) → Sound v (fresh v)
 fresh_sound v = record { sized = refl; owned = λ b. omega (arith, sum_by-replicate (λ ps. held ps b) file_count []) }
 
 pub reached_sound : (c : Config) (qs : List Request) → Sound c.volume (reached c qs)

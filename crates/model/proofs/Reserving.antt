@@ -25,7 +25,7 @@ laid_blocks [] ps le = refl
 laid_blocks (b ∷ bs) [] le = absurd (omega arith)
 laid_blocks (b ∷ bs) (p ∷ ps) le = ap (λ l. b ∷ l) (laid_blocks bs ps (omega arith))
 
-on_places : (m : Model) (f at n : ℕ) (bs : List ℕ) → f < length m.files → length bs ≡ n → at + n ≤ length (file m f) → laid_on (reserve m f at bs) f at n ≡ bs
+pub on_places : (m : Model) (f at n : ℕ) (bs : List ℕ) → f < length m.files → length bs ≡ n → at + n ≤ length (file m f) → laid_on (reserve m f at bs) f at n ≡ bs
 on_places m f at n bs lt long fits =
     let ps = file m f in
     let same : file (reserve m f at bs) f ≡ reserved ps at bs = get_or-set_same m.files f (reserved ps at bs) [] lt in

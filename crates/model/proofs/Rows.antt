@@ -26,7 +26,7 @@ longest_blocks (r ∷ rs) b = omega (arith, (parted r rs).blocks b)
 
 -- over a volume of v blocks
 module _ (free : Blocks) (v : ℕ) (below : (b : ℕ) → v ≤ b → free b ≡ false) where
-  fits_at : (n b : ℕ) → 0 < n → AllFree free b n → Fits n b (runs free v)
+  pub fits_at : (n b : ℕ) → 0 < n → AllFree free b n → Fits n b (runs free v)
   fits_at zero b pos all = absurd (omega arith)
   fits_at (suc n) b pos all = fits_from free n b 0 v (omega arith) (grind (arith, below (b + n), all n)) all
 

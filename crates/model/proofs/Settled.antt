@@ -13,7 +13,7 @@ abbrev pub Clear : List Reason → Type 0
 Clear [] = Unit {0}
 Clear (r ∷ rs) = (r.holds ≡ false) × Clear rs
 
-clear : (rs : List Reason) → first rs ≡ None → Clear rs
+pub clear : (rs : List Reason) → first rs ≡ None → Clear rs
 clear [] e = tt
 clear (r ∷ rs) e = grind (arith, clear rs)
 

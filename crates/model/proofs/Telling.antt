@@ -30,28 +30,28 @@ module _ {m : Model} {past : List Request} (a : Agrees m past) (f : ℕ) (lt : f
   inside : f < length m.files
   inside = omega (arith, a.sized)
 
-  told : (call : Call) (ps : List Place) (free : Blocks) → ((g : ℕ) → concerns call g ≡ eqb f g) → length ps ≡ resized call (length_of past f) → ((k : ℕ) → k < length ps → (get_or ps k hole).bytes ≡ traced (bytes_of past f) (origin call buffer k)) → Agrees (with_file m f ps free) (record { call = call; buffer = buffer } ∷ past)
+  pub told : (call : Call) (ps : List Place) (free : Blocks) → ((g : ℕ) → concerns call g ≡ eqb f g) → length ps ≡ resized call (length_of past f) → ((k : ℕ) → k < length ps → (get_or ps k hole).bytes ≡ traced (bytes_of past f) (origin call buffer k)) → Agrees (with_file m f ps free) (record { call = call; buffer = buffer } ∷ past)
   told call ps free on long bytes = record {
     sized = length-set m.files f ps ∙ a.sized;
     longs = λ g lt'. grind (arith, nat_tests, on g, a.longs g, long, get_or-set_same m.files f ps [], get_or-set_other m.files f g ps []);
     shows = λ g k lt' under. grind (arith, nat_tests, on g, a.shows g k, bytes k, get_or-set_same m.files f ps [], get_or-set_other m.files f g ps []);
   }
 
-  insert_told : (at n : ℕ) → at ≤ length (file m f) → Agrees (insert m f at n) (record { call = Insert f at n; buffer = buffer } ∷ past)
+  pub insert_told : (at n : ℕ) → at ≤ length (file m f) → Agrees (insert m f at n) (record { call = Insert f at n; buffer = buffer } ∷ past)
   insert_told at n le =
       let ps = file m f in
       let long = length_inserted ps at n le in
       told (Insert f at n) (inserted ps at n) m.free (λ g. refl) (omega (arith, long, a.longs f lt))
       (λ k under. rw (inserted_at ps at n k le) (grind (arith, nat_tests, long, a.shows f k lt, a.shows f (k - n) lt)))
 
-  collapse_told : (at n : ℕ) → at + n ≤ length (file m f) → Agrees (collapse m f at n) (record { call = Collapse f at n; buffer = buffer } ∷ past)
+  pub collapse_told : (at n : ℕ) → at + n ≤ length (file m f) → Agrees (collapse m f at n) (record { call = Collapse f at n; buffer = buffer } ∷ past)
   collapse_told at n le =
       let ps = file m f in
       let long = length_collapsed ps at n le in
       told (Collapse f at n) (collapsed ps at n) (collapse m f at n).free (λ g. refl) (omega (arith, long, a.longs f lt))
       (λ k under. rw (collapsed_at ps at n k le) (grind (arith, nat_tests, long, a.shows f k lt, a.shows f (k + n) lt)))
 
-  punch_told : (at n : ℕ) → at + n ≤ length (file m f) → Agrees (punch m f at n) (record { call = Punch f at n; buffer = buffer } ∷ past)
+  pub punch_told : (at n : ℕ) → at + n ≤ length (file m f) → Agrees (punch m f at n) (record { call = Punch f at n; buffer = buffer } ∷ past)
   punch_told at n le =
       let ps = file m f in
       let long = length_punched ps at n le in
@@ -59,7 +59,7 @@ module _ {m : Model} {past : List Request} (a : Agrees m past) (f : ℕ) (lt : f
       (λ k under. rw (punched_at ps at n k le) (grind (arith, nat_tests, long, a.shows f k lt)))
 
   -- a reserve of either form
-  reserve_told : (call : Call) (at : ℕ) (bs : List ℕ) → ((g : ℕ) → concerns call g ≡ eqb f g) → ((l : ℕ) → resized call l ≡ l) → ((k : ℕ) → origin call buffer k ≡ was k) → at ≤ length (file m f) → Agrees (reserve m f at bs) (record { call = call; buffer = buffer } ∷ past)
+  pub reserve_told : (call : Call) (at : ℕ) (bs : List ℕ) → ((g : ℕ) → concerns call g ≡ eqb f g) → ((l : ℕ) → resized call l ≡ l) → ((k : ℕ) → origin call buffer k ≡ was k) → at ≤ length (file m f) → Agrees (reserve m f at bs) (record { call = call; buffer = buffer } ∷ past)
   reserve_told call at bs on size stays le =
       let ps = file m f in
       let long = length_reserved ps at bs le in
@@ -67,7 +67,7 @@ module _ {m : Model} {past : List Request} (a : Agrees m past) (f : ℕ) (lt : f
       (long ∙ a.longs f lt ∙ sym (size (length_of past f)))
       (λ k under. rw (reserved_at ps at bs k le) (grind (arith, long, a.shows f k lt, stays k)))
 
-  write_told : (at : ℕ) → at < length (file m f) → Agrees (write m f at buffer) (record { call = Write f at; buffer = buffer } ∷ past)
+  pub write_told : (at : ℕ) → at < length (file m f) → Agrees (write m f at buffer) (record { call = Write f at; buffer = buffer } ∷ past)
   write_told at under =
       let ps = file m f in
       let p : Place = record { kind = Written; block = (place m f at).block; bytes = buffer } in
@@ -75,7 +75,7 @@ module _ {m : Model} {past : List Request} (a : Agrees m past) (f : ℕ) (lt : f
       told (Write f at) (set ps at p) m.free (λ g. refl) (long ∙ a.longs f lt)
       (λ k under'. grind (arith, nat_tests, long, a.shows f k lt, get_or-set_same ps at p hole, get_or-set_other ps at k p hole))
 
-  drop_told : Agrees (empty m f) (record { call = Drop f; buffer = buffer } ∷ past)
+  pub drop_told : Agrees (empty m f) (record { call = Drop f; buffer = buffer } ∷ past)
   drop_told = told (Drop f) [] (empty m f).free (λ g. refl) refl (λ k under. absurd (omega arith))
 
 -- a granted call that changes no place
