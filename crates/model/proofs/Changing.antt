@@ -35,7 +35,7 @@ length_laid (b ∷ bs) (p ∷ ps) = ap suc (length_laid bs ps)
 abbrev pub reserved_on : ℕ → Place → Place
 reserved_on b p = record { kind = Reserved; block = b; bytes = p.bytes }
 
-laid_at : (bs : List ℕ) (ps : List Place) (k : ℕ) → get_or (laid bs ps) k hole ≡ cond (ltb k (length bs) && ltb k (length ps)) (reserved_on (get_or bs k 0) (get_or ps k hole)) (get_or ps k hole)
+pub laid_at : (bs : List ℕ) (ps : List Place) (k : ℕ) → get_or (laid bs ps) k hole ≡ cond (ltb k (length bs) && ltb k (length ps)) (reserved_on (get_or bs k 0) (get_or ps k hole)) (get_or ps k hole)
 laid_at [] ps k = grind (arith, nat_tests)
 laid_at (b ∷ bs) [] k = grind (arith, nat_tests)
 laid_at (b ∷ bs) (p ∷ ps) zero = grind (arith, nat_tests)

@@ -110,7 +110,7 @@ granted_within c m w (Map f) bytes ok = w
 granted_within c m w (Drop f) bytes ok = drop_within w f (leb-false _ _ ok.0)
 
 -- every file of a new volume is empty
-no_places : (n f : ℕ) → get_or {A = List Place} (replicate n []) f [] ≡ []
+pub no_places : (n f : ℕ) → get_or {A = List Place} (replicate n []) f [] ≡ []
 no_places n f = grind (arith, places)
 
 pub fresh_file : (v f : ℕ) → file (fresh v) f ≡ []
